@@ -33,7 +33,8 @@ module _ {V F S T : Type 0} (words : FamilyWords F (Posted V) S T) (obeys : V �
       (same_process words.width n board.limit (stamped board.first) pass.process (did_of words pass.seat calls)
       (did_with calls numbers own) refl refl (λ e. record { items = refl; begins = refl; ends = refl }) (λ e. refl) made.made)
 
-  module _ (all : AreSoFar (MakesCalls board.first words.width n board.limit) board.first n pass.process own) where
+  module _ (all : AreSoFar (MakesCalls board.first words.width n board.limit) board.first n pass.process (words.times pass.seat)
+      (words.writes pass.seat) (words.reads pass.seat)) where
     -- the calls of each process
     abbrev calls_by : (i : ℕ) → (i ≡ pass.process) ⊎ (i ≡ pass.process → ⊥) → (i < n) ⊎ (n ≤ i) → List (Called V)
     calls_by i (inl e) c = calls
@@ -76,29 +77,24 @@ module _ {V F S T : Type 0} (words : FamilyWords F (Posted V) S T) (obeys : V �
     ordered = record {
       steps = all.steps;
       did = did;
-      numbers = λ j. all.numbers j pass.process;
       own = ap (λ cs. did_with cs (λ j. all.numbers j pass.process) (all.done pass.process))
           (own_calls (cases_eq pass.process pass.process) (cases_lt pass.process n))
-          ∙ ap (λ (z : Doings (Posted V)). did_with calls (λ j. all.numbers j pass.process) z) all.known;
+          ∙ (λ k. did_with calls (λ j. all.numbered j k) (all.known k));
       atomic = atomic_run words.width n board.limit board.first.item all.steps did
           (subst (λ z. IsBoardRunSoFar words.width n board.limit z all.steps did) first_is run);
     }
 
 module _ {V F S T : Type 0} (words : FamilyWords F (Posted V) S T) (obeys : V → Bool) (board : Board V F S T) (pass : Pass V F S T)
     (of : IsPass words obeys board pass) where
+  abbrev Shown : Posted V → ℕ → ℕ → ℕ → Type 0
+  Shown opening n limit who = AreSoFar (MakesCalls opening words.width n limit) opening n who (words.times pass.seat)
+      (words.writes pass.seat) (words.reads pass.seat)
+
   -- by the family's words
-  pub ordered_so_far :
-      AreSoFar (MakesCalls (words.opening board.family) words.width (words.processes board.family) (words.limit board.family))
-      (words.opening board.family) (words.processes board.family) (words.who pass.seat)
-      (doings (words.times pass.seat) (words.writes pass.seat) (words.reads pass.seat)) → HaveAtomicOrderSoFar words board pass
+  pub ordered_so_far : Shown (words.opening board.family) (words.processes board.family) (words.limit board.family) (words.who pass.seat) →
+      HaveAtomicOrderSoFar words board pass
   ordered_so_far all calls made = ordered words obeys board pass of calls made
-      (subst (λ z. AreSoFar (MakesCalls board.first words.width board.processes board.limit) board.first board.processes z own) of.who
-      (subst (λ z. AreSoFar (MakesCalls board.first words.width board.processes z) board.first board.processes (words.who pass.seat) own)
-      of.limit
-      (subst (λ z. AreSoFar (MakesCalls board.first words.width z (words.limit board.family)) board.first z (words.who pass.seat) own)
-      of.processes
-      (subst (λ z. AreSoFar (MakesCalls z words.width (words.processes board.family) (words.limit board.family)) z
-      (words.processes board.family) (words.who pass.seat) own) of.opens all))))
-    where
-      own : Doings (Posted V)
-      own = doings (words.times pass.seat) (words.writes pass.seat) (words.reads pass.seat)
+      (subst (λ z. Shown board.first board.processes board.limit z) of.who
+      (subst (λ z. Shown board.first board.processes z (words.who pass.seat)) of.limit
+      (subst (λ z. Shown board.first z (words.limit board.family) (words.who pass.seat)) of.processes
+      (subst (λ z. Shown z (words.processes board.family) (words.limit board.family) (words.who pass.seat)) of.opens all))))

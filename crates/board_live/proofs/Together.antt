@@ -56,8 +56,9 @@ module _ {V F S T : Type 0} where
 
 module _ {V F S T : Type 0} (words : FamilyWords F (Posted V) S T) (obeys : V → Bool) (board : Board V F S T)
     (passes : List (Pass V F S T)) (some : 0 < length passes) (of : SomePasses words obeys board passes)
-    (calls : ℕ → List (Called V)) (made : HaveMade words board passes calls) (one : ℕ) (first : Doings (Posted V))
-    (all : AreSoFar (MakesCalls board.first words.width board.processes board.limit) board.first board.processes one first)
+    (calls : ℕ → List (Called V)) (made : HaveMade words board passes calls) (one : S)
+    (all : AreSoFar (MakesCalls board.first words.width board.processes board.limit) board.first board.processes (words.who one)
+    (words.times one) (words.writes one) (words.reads one))
     (known : (x : ℕ) (p : Pass V F S T) → slice_get passes x ≡ Some p →
     all.done p.process ≡ doings (words.times p.seat) (words.writes p.seat) (words.reads p.seat))
     (numbers : (x i : ℕ) (p : Pass V F S T) → slice_get passes x ≡ Some p →
@@ -159,6 +160,6 @@ module _ {V F S T : Type 0} (words : FamilyWords F (Posted V) S T) (obeys : V �
       let h = subst (λ z. IsShown board.first board.processes z) p.limit
       (subst (λ z. IsShown board.first z (words.limit board.family)) p.processes
       (subst (λ z. IsShown z (words.processes board.family) (words.limit board.family)) p.opens shown)) in
-      ordered words obeys board passes some of calls made h.one h.own h.all
+      ordered words obeys board passes some of calls made h.one h.all
       (λ x q e. ap h.all.done (sym (of x q e).who) ∙ h.each x q.seat (seat_at x q e))
       (λ x i q e. ap (h.all.numbers i) (sym (of x q e).who) ∙ h.numbers x i q.seat (seat_at x q e))

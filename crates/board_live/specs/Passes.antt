@@ -6,7 +6,7 @@ use Rattle.cell_contract.specs.Running.{IsAnswer, last_or}
 use Rattle.cell_contract.specs.declared.family.Family.{Ghosts as FamilyWords}
 use Rattle.cell_contract.specs.Accesses.{IsReadAccess, IsWriteAccess, KeepsEach, ReadAccesses, WriteAccesses}
 use Rattle.history_core.specs.declared.history.Kind.{Kind}
-use Rattle.history_core.specs.declared.history.Kind.TheVariants.{Write, Refused}
+use Rattle.history_core.specs.declared.history.Kind.TheVariants.{Write, Refused as RefusedKind}
 use Rattle.matrix_core.specs.declared.stamp.Stamp.{Stamp}
 use Rattle.matrix_core.specs.Choices.{IsAtMost}
 use Rattle.matrix_core.specs.Stamps.{first_stamp}
@@ -14,7 +14,7 @@ use Rattle.matrix_core.specs.Lines.{other}
 use Rattle.board_history.specs.BoardRuns.{Answered, Called, Did, IsProcess, own_before, steps_of_call, Written}
 use Rattle.board_live.specs.declared.board.Board.{Board}
 use Rattle.board_live.specs.declared.board.Pass.{Pass}
-use Rattle.board_live.specs.declared.board.TagsEnded.{TagsEnded}
+use Rattle.board_live.specs.declared.board.Refused.{Refused}
 use Rattle.board_live.specs.declared.record.Posted.{Posted}
 use Rattle.board_live.specs.Records.{greatest, Rises, stamped}
 
@@ -124,11 +124,11 @@ module _ {V F S T : Type 0} (family : FamilyWords F (Posted V) S T) where
 
 module _ {V : Type 0} where
   -- what a write chooses, and answers: below the limit its item with the next stamp, else what was seen
-  abbrev pub ChoosesStamp : ℕ → ℕ → V → Posted V → Posted V → Result Stamp (TagsEnded V) → Type 0
+  abbrev pub ChoosesStamp : ℕ → ℕ → V → Posted V → Posted V → Result Stamp (Refused V) → Type 0
   ChoosesStamp limit process item seen chosen (Ok s) =
       (seen.stamp.tag < limit) × (s ≡ record { tag = seen.stamp.tag + 1; writer = process }) × (chosen ≡ record { stamp = s; item = item })
   ChoosesStamp limit process item seen chosen (Err e) = (limit ≤ seen.stamp.tag) × (e.seen ≡ seen) × (chosen ≡ seen)
 
-  abbrev pub kind_of : Result Stamp (TagsEnded V) → Kind
+  abbrev pub kind_of : Result Stamp (Refused V) → Kind
   kind_of (Ok s) = Write
-  kind_of (Err e) = Refused
+  kind_of (Err e) = RefusedKind

@@ -11,7 +11,7 @@ use Rattle.board_live.specs.declared.record.Posted.{Posted}
 module _ {V F S T : Type 0} (family : FamilyWords F (Posted V) S T) where
   -- the receipt is of this board, and names its record of its sender to each other process
   pub record IsReceipt (board : Board V F S T) (receipt : Receipt V F S T) : Type 0 where
-    pub of : family.is_told board.family receipt.told
+    pub of : family.is_receipt board.family receipt.told
     pub sender : family.sender receipt.told ≡ receipt.from
     pub inside : receipt.from < board.processes
     pub names : (j : ℕ) → j < board.processes → j ≢ receipt.from → family.named receipt.told j ≡ receipt.item

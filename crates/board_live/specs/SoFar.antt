@@ -4,14 +4,12 @@
 -- Transactions on Programming Languages and Systems 12, 1990.
 use Rattle.std.specs.Prelude.{◌≡◌, ℕ, List}
 use Rattle.cell_contract.specs.declared.family.Family.{Ghosts as FamilyWords}
-use Rattle.cell_contract.specs.Plans.{doings}
 use Rattle.board_history.specs.BoardRuns.{Called, Did}
 use Rattle.board_history.specs.HistoriesSoFar.{IsAtomicRunSoFar}
 use Rattle.board_live.specs.declared.board.Board.{Board}
 use Rattle.board_live.specs.declared.board.Pass.{Pass}
 use Rattle.board_live.specs.declared.record.Posted.{Posted}
-use Rattle.board_live.specs.Passes.{HasMade}
-use Rattle.board_live.specs.Plans.{did_with}
+use Rattle.board_live.specs.Passes.{did_of, HasMade}
 
 module _ {V F S T : Type 0} (words : FamilyWords F (Posted V) S T) where
   -- *An atomic order so far*: the pass's process made these calls, each other process made some, ended or cut off at
@@ -19,9 +17,7 @@ module _ {V F S T : Type 0} (words : FamilyWords F (Posted V) S T) where
   pub record HasOrderSoFar (board : Board V F S T) (pass : Pass V F S T) (calls : List (Called V)) : Type 0 where
     pub steps : List ℕ
     pub did : ℕ → Did V
-    pub numbers : ℕ → List ℕ
-    pub own : did pass.process
-        ≡ did_with calls numbers (doings (words.times pass.seat) (words.writes pass.seat) (words.reads pass.seat))
+    pub own : did pass.process ≡ did_of words pass.seat calls
     pub atomic : IsAtomicRunSoFar words.width board.processes board.limit board.first.item steps did
 
   -- *Atomic so far*: whatever calls were made with the pass, there are calls of the others with which they have an

@@ -25,6 +25,6 @@ pub struct Pass<V: RecordLaw, F: Family<Posted<V>>> {
 
 /// The tags have ended. What was seen is handed on, as by a read.
 #[derive(Debug, Drop)]
-pub struct TagsEnded<V> {
+pub struct Refused<V> {
     pub seen: Posted<V>,
 }

@@ -10,7 +10,7 @@ ghost use Rattle.board_live.specs.SoFar.{HaveAtomicOrderSoFar};
 ghost use Rattle.matrix_core.specs.Stamps.{IsBelow};
 ghost use Rattle.board_live.specs.Records.{Rises};
 
-use crate::board::{Board, Pass, TagsEnded};
+use crate::board::{Board, Pass, Refused};
 use crate::record::{Posted, RecordLaw};
 use cell_contract::Family;
 use matrix_core::Stamp;
@@ -127,7 +127,7 @@ impl<V: RecordLaw, F: Family<Posted<V>>> Board<V, F> {
     /// Gives the item the next stamp above what the own record and the others show, and hands it on. If the greatest tag seen isn't below
     /// the limit, hands on what was seen.
     #[inline]
-    pub fn write(&self, pass: &mut Pass<V, F>, item: V) -> Result<Stamp, TagsEnded<V>>
+    pub fn write(&self, pass: &mut Pass<V, F>, item: V) -> Result<Stamp, Refused<V>>
         requires pass { IsPass ⟦<F as Family<Posted<V>>>⟧ V.obeys self.now pass.old }
         requires item { IsTrue (V.obeys item) }
         ensures pass { IsPass ⟦<F as Family<Posted<V>>>⟧ V.obeys self.now pass.new }
@@ -160,7 +160,7 @@ impl<V: RecordLaw, F: Family<Posted<V>>> Board<V, F> {
         );
         match next {
             Some(stamp) => Ok(stamp),
-            None => Err(TagsEnded { seen: pass.own }),
+            None => Err(Refused { seen: pass.own }),
         }
     }
 }

@@ -12,7 +12,7 @@ mod receipts;
 mod record;
 mod so_far;
 
-pub use board::{Board, Pass, TagsEnded};
+pub use board::{Board, Pass, Refused};
 pub use deals::BoardError;
 pub use receipts::Receipt;
 pub use record::{Posted, RecordLaw};

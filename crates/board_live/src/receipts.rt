@@ -12,7 +12,7 @@ use cell_contract::Family;
 pub struct Receipt<V: RecordLaw, F: Family<Posted<V>>> {
     pub(crate) from: usize,
     pub(crate) item: Posted<V>,
-    pub(crate) told: F::Told,
+    pub(crate) told: F::Receipt,
 }
 
 impl<V: RecordLaw, F: Family<Posted<V>>> Board<V, F> {

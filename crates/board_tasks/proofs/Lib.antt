@@ -11,3 +11,5 @@ pub mod SoundLogs
 pub mod SoundOrders
 pub mod SoundRest
 pub mod SoundRuns
+pub mod WrittenSoFar
+pub mod SoundBeside

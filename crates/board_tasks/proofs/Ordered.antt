@@ -1,7 +1,7 @@
 -- The logs of an atomic run have one order: that of its calls, each with the entry that tells of it.
 use Rattle.std.proofs.Common.{◌≡◌, ◌≢◌, Bool, true, false, ℕ, zero, suc, ◌+◌, ◌<◌, ◌≤◌, List, [], ◌∷◌, length, map, refl, sym, ◌∙◌, ap}
 use Rattle.std.proofs.Common.{subst}
-use Rattle.std.proofs.Common.{arith, get_or, ◌⊎◌, inl, inr}
+use Rattle.std.proofs.Common.{arith, inl, inr}
 use Rattle.std.specs.Prelude.{slice_get, Option, Some, None, nat_eq, drop}
 use Rattle.std.specs.Option.{option_map}
 use mathlib.Core.Bool.{cond}
@@ -14,7 +14,6 @@ use Rattle.history_core.specs.declared.history.Kind.{Kind}
 use Rattle.history_core.specs.declared.history.Kind.TheVariants.{Refused, Read as ReadKind, Write as WriteKind}
 use Rattle.history_core.specs.declared.wish.Wish.{Wish}
 use Rattle.history_core.specs.declared.wish.Wish.TheVariants.{Write, Read}
-use Rattle.matrix_core.specs.declared.stamp.Stamp.{Stamp}
 use Rattle.matrix_core.specs.declared.stamp.Stamped.{Stamped}
 use Rattle.matrix_core.specs.Choices.{IsIn}
 use Rattle.matrix_core.specs.Stamps.{first_stamp, IsBelow}
@@ -34,7 +33,7 @@ use Rattle.board_tasks.specs.declared.lane.Entry.{Entry}
 use Rattle.board_tasks.specs.declared.lane.Lane.{Lane}
 use Rattle.board_tasks.specs.declared.lane.Reply.{Reply}
 use Rattle.board_tasks.specs.declared.lane.Reply.TheVariants.{Written, Seen, Ended}
-use Rattle.board_tasks.specs.LogOrders.{AreEntriesOfOne, entries_of, is_of, IsLogOrder, LogsInOrder, Noted, RegisterTakesEntry}
+use Rattle.board_tasks.specs.LogOrders.{AreEntriesOfOne, entries_of, is_of, LogsInOrder, Noted, RegisterTakesEntry}
 use Rattle.board_tasks.specs.Tasks.{kind_by}
 use Rattle.board_tasks.specs.Worked.{AreAtomicLogs, EachTells, HasChosenBy, HaveWorked, logs_of, TellsOfCall}
 use Rattle.board_tasks.proofs.Works.{drop_past}

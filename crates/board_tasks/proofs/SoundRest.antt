@@ -1,5 +1,5 @@
 -- Of logs that are sound those that are left, where some are lost, are sound beside these.
-use Rattle.std.proofs.Common.{◌≡◌, ◌⊎◌, Bool, ℕ, true, ◌&&◌, ◌||◌, List, [], slice_get, Option, Some, sym, ◌∙◌, ap, inl, inr}
+use Rattle.std.proofs.Common.{◌≡◌, Bool, ℕ, true, ◌&&◌, ◌||◌, List, [], slice_get, Some, sym, ◌∙◌, ap, inl, inr}
 use Rattle.std.proofs.lemmas.Option.{none-some, same_Some}
 use Rattle.matrix_core.specs.Stamps.{first_stamp}
 use Rattle.board_live.specs.declared.record.Posted.{Posted}

@@ -2,11 +2,11 @@
 -- a write; that call's process has its entry in its log.
 use Rattle.std.proofs.Common.{◌≡◌, ℕ, zero, suc, ◌+◌, ◌<◌, Bool, true, ◌&&◌, List, [], ◌∷◌, length, map, take, refl, sym, ◌∙◌, ap, subst}
 use Rattle.std.proofs.Common.{arith, inl, inr}
-use Rattle.std.specs.Prelude.{slice_get, Option, Some, None, nat_eq}
+use Rattle.std.specs.Prelude.{slice_get, Some, nat_eq}
 use Rattle.std.specs.Option.{option_map}
 use Rattle.std.proofs.lemmas.Bool.Decides.{nat_tests}
 use Rattle.std.proofs.lemmas.List.{length-map}
-use Rattle.std.proofs.lemmas.Option.{same_Some, slice_get-map, slice_get_within}
+use Rattle.std.proofs.lemmas.Option.{slice_get-map, slice_get_within}
 use Rattle.history_core.specs.declared.history.Kind.{Kind}
 use Rattle.history_core.specs.declared.history.Kind.TheVariants.{Refused, Read as ReadKind, Write as WriteKind}
 use Rattle.history_core.specs.declared.wish.Wish.{Wish}
@@ -26,7 +26,7 @@ use Rattle.cell_contract.specs.declared.family.Family.{Ghosts as FamilyWords}
 use Rattle.board_live.specs.declared.board.Board.{Board}
 use Rattle.board_live.specs.declared.board.Pass.{Pass}
 use Rattle.board_live.specs.declared.record.Posted.{Posted}
-use Rattle.board_live.specs.Ends.{did_at, did_by}
+use Rattle.board_live.specs.Ends.{did_by}
 use Rattle.board_live.specs.Records.{stamped}
 use Rattle.board_tasks.specs.declared.lane.Entry.{Entry}
 use Rattle.board_tasks.specs.declared.lane.Lane.{Lane}
@@ -35,7 +35,7 @@ use Rattle.board_tasks.specs.declared.lane.Reply.TheVariants.{Written, Seen, End
 use Rattle.board_tasks.specs.Logs.{is_at_most, stamp_of}
 use Rattle.board_tasks.specs.Tasks.{kind_by}
 use Rattle.board_tasks.proofs.Ordered.{call_at, calls_did, entry_at}
-use Rattle.board_tasks.specs.Worked.{AreAtomicLogs, EachTells, HasChosenBy, HaveWorked, logs_of, TellsOfCall}
+use Rattle.board_tasks.specs.Worked.{AreAtomicLogs, EachTells, HasChosenBy, HaveWorked, logs_of}
 use Rattle.board_tasks.specs.declared.origin.Origin.TheVariants.{Broken}
 use Rattle.board_tasks.specs.Origins.{AllKeep, has_origin, has_write, in_order, is_known, is_reply_at, IsOrigin, same_stamp, sees_known}
 use Rattle.board_tasks.specs.Origins.{stamp_before, wrote}
@@ -43,7 +43,7 @@ use Rattle.board_tasks.specs.Told.{AreOfRun}
 use Rattle.board_tasks.proofs.SoundOrders.{all_true, any_in, at_most_below, at_most_self, first_true, in_at, second_true, sound_unbroken}
 use Rattle.board_tasks.proofs.SoundOrders.{stamp_itself}
 
-at_most_is : (a b : Stamp) → IsAtMost a b → is_at_most a b ≡ true
+pub at_most_is : (a b : Stamp) → IsAtMost a b → is_at_most a b ≡ true
 at_most_is a b (inl e) = ap (is_at_most a) (sym e) ∙ at_most_self a
 at_most_is a b (inr h) = at_most_below a b h
 
@@ -54,7 +54,7 @@ below_next before seen writer h = grind (arith, nat_tests)
 number_itself : (n : ℕ) → nat_eq n n ≡ true
 number_itself n = grind (arith, nat_tests)
 
-greatest_first : {V : Type 0} (own : Stamped V) (answers : List (Stamped V)) → IsAtMost own.stamp (greatest own answers).stamp
+pub greatest_first : {V : Type 0} (own : Stamped V) (answers : List (Stamped V)) → IsAtMost own.stamp (greatest own answers).stamp
 greatest_first own [] = inl refl
 greatest_first own (x ∷ xs) =
     at_most_trans own.stamp (greater own x).stamp (greatest (greater own x) xs).stamp (greater_first own x)
@@ -71,7 +71,7 @@ module _ {V : Type 0} where
   stamp_told Read (Ended p) chosen h = absurd h
 
   -- so the stamp before an entry is that of the record that its process had
-  before_is : (first : Stamped V) (es : List (Entry V)) (cs : List (Called V)) (k : ℕ) → EachTells es cs →
+  pub before_is : (first : Stamped V) (es : List (Entry V)) (cs : List (Called V)) (k : ℕ) → EachTells es cs →
       last_or first.stamp (map (λ e. stamp_of e.reply) (take k es)) ≡ (own_before first cs k).stamp
   before_is first [] [] zero h = refl
   before_is first [] [] (suc k) h = refl
@@ -83,7 +83,7 @@ module _ {V : Type 0} where
       ∙ before_is c.chosen es cs k h.1
 
   -- what an entry says of what its call saw and chose
-  reply_fits : (limit task : ℕ) (before seen : Stamp) (item : V) (wish : Wish V) (reply : Reply V) (kind : Kind) (chosen : Stamped V) →
+  pub reply_fits : (limit task : ℕ) (before seen : Stamp) (item : V) (wish : Wish V) (reply : Reply V) (kind : Kind) (chosen : Stamped V) →
       is_at_most before seen ≡ true → kind ≡ kind_by reply → HasChosenBy wish reply chosen →
       ChoosesByKind limit (record { place = 0; who = task; kind = kind; stamp = chosen.stamp; item = chosen.item }) kind seen item →
       is_reply_at task before wish reply ≡ true
@@ -130,7 +130,7 @@ module _ {V : Type 0} where
   seen_known equal opening logs (Write v) (Ended p) chosen h known = known p (sym h)
   seen_known equal opening logs Read (Ended p) chosen h known = absurd h
 
-  chosen_writer : (limit task : ℕ) (c : Called V) → c.kind ≡ WriteKind →
+  pub chosen_writer : (limit task : ℕ) (c : Called V) → c.kind ≡ WriteKind →
       ChoosesByKind limit (record { place = 0; who = task; kind = c.kind; stamp = c.chosen.stamp; item = c.chosen.item }) c.kind
       c.seen.stamp c.seen.item
       → c.chosen.stamp.writer ≡ task
@@ -138,6 +138,27 @@ module _ {V : Type 0} where
       ap (λ (z : Stamp). z.writer)
       (subst (λ k. ChoosesByKind limit (record { place = 0; who = task; kind = c.kind; stamp = c.chosen.stamp; item = c.chosen.item }) k
       c.seen.stamp c.seen.item) e h).1
+
+  -- the opening is known, and so is a record of a write that a log tells of
+  module _ (equal : V → V → Bool) (itself : (x : V) → equal x x ≡ true) (opening : V) (logs : List (List (Entry V))) where
+    pub first_known : (p : Posted V) → stamped p ≡ first_record opening → is_known equal opening logs p ≡ true
+    first_known p e =
+        let stamp : p.stamp ≡ first_stamp = ap (λ (z : Stamped V). z.stamp) e in
+        let item : p.item ≡ opening = ap (λ (z : Stamped V). z.item) e in
+        first_true (same_stamp p.stamp first_stamp && equal p.item opening) (has_write equal p (slice_get logs p.stamp.writer))
+        (all_true (same_stamp p.stamp first_stamp) (equal p.item opening)
+        (ap (λ s. same_stamp s first_stamp) stamp ∙ stamp_itself first_stamp) (ap (λ z. equal z opening) item ∙ itself opening))
+
+    pub entry_known : (p : Posted V) (j m : ℕ) (log : List (Entry V)) (calls : List (Called V)) (c : Called V) →
+        slice_get logs j ≡ Some log → EachTells log calls → slice_get calls m ≡ Some c → c.kind ≡ WriteKind → p.stamp.writer ≡ j →
+        stamped p ≡ c.chosen → is_known equal opening logs p ≡ true
+    entry_known p j m log calls c at tells made kind mine e =
+        let w = entry_at log calls m c tells made in
+        let there : slice_get logs p.stamp.writer ≡ Some log = ap (slice_get logs) mine ∙ at in
+        let is : wrote equal p w.0.wish w.0.reply ≡ true =
+        is_wrote equal itself p w.0.wish w.0.reply c.chosen (sym kind ∙ w.2.0) w.2.1 e in
+        second_true (same_stamp p.stamp first_stamp && equal p.item opening) (has_write equal p (slice_get logs p.stamp.writer))
+        (ap (has_write equal p) there ∙ any_in (λ (d : Entry V). wrote equal p d.wish d.reply) log w.0 (in_at log m w.0 w.1) is)
 
   module _ (opening : V) (logs : List (List (Entry V))) (h : AreOfRun opening logs) where
     process : (i : ℕ) → i < length logs → IsProcess h.width (length logs) h.limit (first_record opening) i (h.did i)
@@ -158,26 +179,13 @@ module _ {V : Type 0} where
         ((process t l).chooses j 0 c w.1)
 
     module _ (equal : V → V → Bool) (itself : (x : V) → equal x x ≡ true) where
-      first_known : (p : Posted V) → stamped p ≡ first_record opening → is_known equal opening logs p ≡ true
-      first_known p e =
-          let stamp : p.stamp ≡ first_stamp = ap (λ (z : Stamped V). z.stamp) e in
-          let item : p.item ≡ opening = ap (λ (z : Stamped V). z.item) e in
-          first_true (same_stamp p.stamp first_stamp && equal p.item opening) (has_write equal p (slice_get logs p.stamp.writer))
-          (all_true (same_stamp p.stamp first_stamp) (equal p.item opening)
-          (ap (λ s. same_stamp s first_stamp) stamp ∙ stamp_itself first_stamp) (ap (λ z. equal z opening) item ∙ itself opening))
-
       written_known : (p : Posted V) (j m : ℕ) (c : Called V) → j < length logs → slice_get (h.did j).calls m ≡ Some c →
           c.kind ≡ WriteKind → stamped p ≡ c.chosen → is_known equal opening logs p ≡ true
       written_known p j m c l made kind e =
           let log = get_exists logs j l in
-          let w = entry_at log.0 (h.did j).calls m c (h.told j log.0 log.1) made in
           let mine : p.stamp.writer ≡ j =
           ap (λ (z : Stamped V). z.stamp.writer) e ∙ chosen_writer h.limit j c kind ((process j l).chooses m 0 c made) in
-          let there : slice_get logs p.stamp.writer ≡ Some log.0 = ap (slice_get logs) mine ∙ log.1 in
-          let is : wrote equal p w.0.wish w.0.reply ≡ true =
-          is_wrote equal itself p w.0.wish w.0.reply c.chosen (sym kind ∙ w.2.0) w.2.1 e in
-          second_true (same_stamp p.stamp first_stamp && equal p.item opening) (has_write equal p (slice_get logs p.stamp.writer))
-          (ap (has_write equal p) there ∙ any_in (λ (d : Entry V). wrote equal p d.wish d.reply) log.0 w.0 (in_at log.0 m w.0 w.1) is)
+          entry_known equal itself opening logs p j m log.0 (h.did j).calls c log.1 (h.told j log.0 log.1) made kind mine e
 
       pub run_known : AllKeep (has_origin equal opening logs) logs
       run_known t j log e at in_log =
@@ -186,7 +194,7 @@ module _ {V : Type 0} where
           let c : Called V = w.0 in
           seen_known equal opening logs e.wish e.reply c.chosen w.2.1 (λ p is.
           elim (calls_written h.width (length logs) h.limit opening h.steps h.did h.run t j c l w.1) [
-            | inl first ↦ first_known p (is ∙ first)
+            | inl first ↦ first_known equal itself opening logs p (is ∙ first)
             | inr from ↦ written_known p from.0 from.1 from.2 from.3 from.4 from.5 (is ∙ from.6)
           ])
 

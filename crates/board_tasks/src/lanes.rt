@@ -3,8 +3,9 @@ ghost use Rattle.std.specs.Prelude.{◌≡◌, All, IfOk, length, map};
 ghost use Rattle.board_live.specs.Ends.{IsGreatest};
 ghost use Rattle.board_tasks.specs.LogOrders.{LogsInOrder};
 ghost use Rattle.board_tasks.specs.Lanes.{AreLanes};
-ghost use Rattle.board_tasks.specs.Left.{AreAtomicLogsWith, SomeHaveWorked};
+ghost use Rattle.board_tasks.specs.Left.{AreAtomicLogsWith, AreLogsOfAll, SomeHaveWorked};
 ghost use Rattle.board_tasks.specs.Logs.{Obeys};
+ghost use Rattle.board_tasks.specs.Told.{AreOfRunBeside};
 ghost use Rattle.board_tasks.specs.Worked.{AreAtomicLogs, HaveWorked, logs_of};
 
 use crate::lane::{Entry, Lane};
@@ -103,9 +104,10 @@ pub fn finish_lanes<V: RecordLaw + Drop, F: Family<Posted<V>>>(
     Ok((logs, board.finish(passes)))
 }
 
-/// Ends the board of the lanes that came back, at least one. Gives the log of each, and the greatest record that one of them has. The
-/// entries of the logs tell of calls that are atomic by their intervals, with some calls of the tasks that were lost, of which each may be
-/// cut off in its last. A refusal drops the board and the lanes.
+/// Ends the board of the lanes that came back, at least one. Gives the log of each, and the greatest record that one of
+/// them has. The entries of the logs tell of calls that are atomic by their intervals, with some calls of the tasks that
+/// were lost, of which each may be cut off in its last. So the logs of all, with an empty one for each task that was
+/// lost, are sound by `check_origin_beside`. A refusal drops the board and the lanes.
 pub fn finish_left<V: RecordLaw + Drop, F: EndsWithSome<Posted<V>>>(
     alloc: Global,
     board: Board<V, F>,
@@ -115,6 +117,8 @@ pub fn finish_left<V: RecordLaw + Drop, F: EndsWithSome<Posted<V>>>(
     ensures logs { IfOk result (λ r. map (λ v. v.items) r.0.items ≡ logs_of lanes.items) }
     ensures last { IfOk result (λ r. IsGreatest (map (λ l. l.pass) lanes.items) r.1) }
     ensures atomic { IfOk result (λ r. AreAtomicLogsWith ⟦<F as Family<Posted<V>>>⟧ board lanes.items) }
+    ensures beside { IfOk result (λ r. (lost : _) (logs : _) → AreLogsOfAll board lanes.items lost logs →
+        AreOfRunBeside board.first.item lost logs) }
 {
     let (passes, logs) = all_parts(alloc, lanes)?;
     let last = board.finish_with(alloc, passes)?;

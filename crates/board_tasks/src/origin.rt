@@ -4,7 +4,7 @@ ghost use Rattle.board_tasks.specs.LogOrders.{LogsInOrder};
 ghost use Rattle.board_tasks.specs.Lost.{AreWithoutLost, IsOriginBesideLost};
 ghost use Rattle.board_tasks.specs.declared.origin.Origin.TheVariants.{Sound};
 ghost use Rattle.board_tasks.specs.Origins.{AllKeep, in_order, IsOrigin};
-ghost use Rattle.board_tasks.specs.Told.{AreOfRun};
+ghost use Rattle.board_tasks.specs.Told.{AreOfRun, AreOfRunBeside};
 
 use crate::{Entry, Lane};
 use board_live::{Posted, RecordLaw};
@@ -72,9 +72,10 @@ pub fn check_origin<V: Copy + Eq, L: HasLog<V>>(opening: V, logs: &[L]) -> Origi
     Origin::Sound
 }
 
-/// The same of logs of which some were lost, as those of tasks that never came back: such a log may be empty, and a record whose stamp names
-/// its task may have its origin there. Whether two records have one stamp of a lost task isn't looked at. Logs that are sound are sound
-/// without those that are lost.
+/// The same of logs of which some were lost, as those of tasks that never came back: such a log may be empty, and a
+/// record whose stamp names its task may have its origin there. Whether two records have one stamp of a lost task isn't
+/// looked at. Logs that are sound are sound without those that are lost, and so are those of a board's run in which the
+/// lost tasks were cut off.
 pub fn check_origin_beside<V: Copy + Eq, L: HasLog<V>>(
     opening: V,
     logs: &[L],
@@ -83,6 +84,7 @@ pub fn check_origin_beside<V: Copy + Eq, L: HasLog<V>>(
     ensures origin { IsOriginBesideLost V.eq opening lost.now (map L.logged logs.now) result }
     ensures rest { (whole : _) → IsOrigin V.eq opening whole Sound → AreWithoutLost lost.now whole (map L.logged logs.now)
         → result ≡ Sound }
+    ensures run { AreOfRunBeside opening lost.now (map L.logged logs.now) → result ≡ Sound }
 {
     if let Some((task, call)) = first_break(&InOrder, logs) {
         return Origin::Broken { task, call };

@@ -42,7 +42,7 @@ pub fn run_tasks<
 >(rt: &R, board: &Board<V, F>, lanes: &mut [Lane<V, F>], gate: &G)
 where
     F::Seat: Send,
-    F::Told: Send,
+    F::Receipt: Send,
     requires { AllReady (λ l. IsPass ⟦<F as Family<Posted<V>>>⟧ V.obeys board.now l.pass × IsLane V.obeys l) 0 lanes.old }
     ensures { EachStep (Ran ⟦<F as Family<Posted<V>>>⟧ V.obeys (Permitted G.is_for gate.now) (G.may_stop gate.now) board.now)
         0 lanes.old lanes.new }

@@ -75,7 +75,7 @@ pub fn run_plans<R: Threads + Sync, F: SharedFamily<Posted<Band>>, G: Gate + Syn
 ) -> Result<Crew<F>, AllocError>
 where
     F::Seat: Send,
-    F::Told: Send,
+    F::Receipt: Send,
     ensures { IfOk result (λ r. HaveWorked ⟦<F as Family<Posted<Band>>>⟧ fits r.board r.lanes.items) }
 {
     let Ok((board, passes)) = Board::<Band, F>::new(alloc, plans.len(), limit, point(0)) else {

@@ -3,7 +3,7 @@ ghost use Rattle.std.specs.Prelude.{IfOk};
 ghost use Rattle.history_core.specs.Band.{fits};
 ghost use Rattle.board_live.specs.Ends.{AllPasses};
 
-use board_live::{Board, BoardError, Pass, Posted, RecordLaw, TagsEnded};
+use board_live::{Board, BoardError, Pass, Posted, RecordLaw, Refused};
 use cell_contract::Family;
 use history_core::Band;
 use matrix_core::Stamp;
@@ -82,7 +82,7 @@ impl<F: Family<Posted<Band>>> Team<F> {
         }
         match self.board.write(&mut self.passes[who], item) {
             Ok(stamp) => Given::Stamp(stamp),
-            Err(TagsEnded { seen }) => Given::Ended(seen),
+            Err(Refused { seen }) => Given::Ended(seen),
         }
     }
 

@@ -5,7 +5,7 @@ ghost use Rattle.c_boards.specs.Places.{shown, IsBoardWrite, IsBoardRead, IsBoar
 
 use crate::mark::{Mark, is_below, mark_of};
 use crate::posts::Posts;
-use c_registers::{BUSY, DONE, Holds, OLDER, WORN_OUT, Wraps, lacks};
+use c_registers::{BUSY, DONE, Holds, OLDER, REFUSED, Wraps, lacks};
 use matrix_core::Stamp;
 
 /// Writes by the place in the struct.
@@ -49,7 +49,7 @@ pub fn write_place<D: Wraps<S>, L: Holds<D>, W: Copy, S: Posts<W>>(
     let posted = post_inside::<D, W, S>(loose.reach(), item);
     *live = code;
     match posted {
-        None => WORN_OUT,
+        None => REFUSED,
         Some(given) => {
             *stamp = mark_of(given);
             DONE

@@ -3,8 +3,9 @@ use Rattle.std.specs.Prelude.{◌≡◌, ◌≢◌, ◌≤◌, ◌+◌, [], ◌�
 use Rattle.std.specs.Arc.{arc_value}
 use Rattle.cell_contract.specs.Intervals.{IsNextAnswer, IsNextCall, no_times, none_known}
 use Rattle.cell_contract.specs.Running.{IsAnswer}
+use Rattle.cell_contract.specs.CallsSoFar.{AreCallsSoFar}
 use Rattle.cell_four_slot.specs.Words.{opening_of, written_by, answers_of, told_to, writer_accesses, reader_accesses}
-use Rattle.cell_four_slot.specs.Words.{pair_said, pair_shown, put_times, get_times, numbers_of, known_to}
+use Rattle.cell_four_slot.specs.Words.{pair_said, pair_shown, put_times, get_times, numbers_of, known_to, heard_by}
 use Rattle.c_registers.specs.Numbers.{Always, IsNoEarlier, numbered}
 use Rattle.c_registers.specs.declared.numbered.Numbered.{Numbered}
 use Rattle.c_registers.specs.declared.four_slot.FourSlotWriter.{FourSlotWriter}
@@ -47,3 +48,4 @@ module _ {W : Type 0} where
     pub written : IsNextAnswer (opening_of (arc_value g.cell)) (known_to g.get)
         (known_to h.get) (numbers_of g.get) (numbers_of h.get)
         (answers_of h.get) (get_times h.get) a
+    pub so_far : AreCallsSoFar Always IsNoEarlier (opening_of (arc_value g.cell)) (heard_by h.get) (answers_of h.get) (get_times h.get)

@@ -3,8 +3,9 @@ use Rattle.std.specs.Prelude.{◌≡◌, ◌≢◌, ◌+◌, ◌≤◌, [], ◌�
 use Rattle.std.specs.Arc.{arc_value}
 use Rattle.cell_contract.specs.Intervals.{IsNextAnswer, IsNextCall, no_times, none_known}
 use Rattle.cell_contract.specs.Running.{IsAnswer}
+use Rattle.cell_contract.specs.CallsSoFar.{AreCallsSoFar}
 use Rattle.cell_triple.specs.Words.{opening_of, written_by, answers_of, told_to, swaps_of_put, loads_of, swaps_of}
-use Rattle.cell_triple.specs.Words.{put_times, get_times, numbers_of, known_to, at_hand_of}
+use Rattle.cell_triple.specs.Words.{put_times, get_times, numbers_of, known_to, heard_by, at_hand_of}
 use Rattle.cell_triple.specs.Lent.{IsSame, placed_by, put_with}
 use Rattle.c_registers.specs.Numbers.{Always, IsNoEarlier, numbered}
 use Rattle.c_registers.specs.declared.numbered.Numbered.{Numbered}
@@ -66,6 +67,7 @@ module _ {W : Type 0} where
     pub written : IsNextAnswer (opening_of (arc_value g.cell)) (known_to g.get)
         (known_to h.get) (numbers_of g.get) (numbers_of h.get)
         (answers_of h.get) (get_times h.get) a
+    pub so_far : AreCallsSoFar Always IsNoEarlier (opening_of (arc_value g.cell)) (heard_by h.get) (answers_of h.get) (get_times h.get)
 
   abbrev pub HasRead : TripleReader W → TripleReader W → Numbered W → Type 0
   HasRead g h a = HasReadBy g.room.inner h.room.inner a

@@ -13,7 +13,7 @@ ghost use Rattle.c_registers.specs.declared.triple.TripleWriter.{TripleWriter};
 
 use crate::hands::{Hand, Holds, Wraps};
 use crate::roles::{Opens, Reading, Writing};
-use crate::status::{CUT_OFF, DONE, ENDED, IN_USE, NO_MEMORY, OTHER_SIDE, WORN_OUT};
+use crate::status::{CUT_OFF, DONE, ENDED, IN_USE, NO_MEMORY, OTHER_SIDE, REFUSED};
 use crate::triple::{TripleReader, TripleWriter};
 use std::alloc::Global;
 
@@ -153,7 +153,7 @@ pub fn write<D: Wraps<P>, L: Holds<D>, W: Copy, P: Writing<W>>(
     *live = BUSY;
     let written = write_inside::<D, W, P>(loose.reach(), item);
     *live = code;
-    if written { DONE } else { WORN_OUT }
+    if written { DONE } else { REFUSED }
 }
 
 /// Publishes what lies in the slot of the triple buffer's writing side of a handle.
@@ -175,7 +175,7 @@ pub fn publish<D: Wraps<TripleWriter<W>>, L: Holds<D>, W: Copy>(
     *live = BUSY;
     let published = publish_inside::<D, W>(loose.reach());
     *live = code;
-    if published { DONE } else { WORN_OUT }
+    if published { DONE } else { REFUSED }
 }
 
 /// Reads by the reading side of a handle.

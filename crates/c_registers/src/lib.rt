@@ -21,6 +21,6 @@ pub use numbered::Numbered;
 pub use roles::{Opens, Reading, Writing};
 pub use room::Room;
 pub use status::{
-    CUT_OFF, DONE, ENDED, IN_USE, LIMIT, NO_MEMORY, OLDER, OTHER_SIDE, PROCESSES, WORN_OUT,
+    CUT_OFF, DONE, ENDED, IN_USE, LIMIT, NO_MEMORY, OLDER, OTHER_SIDE, PROCESSES, REFUSED,
 };
 pub use triple::{TripleEnds, TripleFiller, TripleReader, TripleWriter};

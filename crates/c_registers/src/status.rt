@@ -8,7 +8,7 @@ pub const IN_USE: u32 = 2;
 
 pub const ENDED: u32 = 3;
 
-pub const WORN_OUT: u32 = 4;
+pub const REFUSED: u32 = 4;
 
 pub const OTHER_SIDE: u32 = 5;
 

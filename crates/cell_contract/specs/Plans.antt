@@ -80,15 +80,18 @@ module _ {T : Type 0} where
       OneByOne (ReadsSoFar width width) i old count now → MayRead plan width (other i count) now
 
   -- *What all processes have done so far*, finished or cut off: their steps are one schedule, what each has done is of the plan, and each
-  -- register between two of them is regular by its intervals. One of them has done what is known of it
-  pub record AreSoFar (plan : ℕ → Doings T → Type 0) (opening : T) (n who : ℕ) (own : Doings T) : Type 0 where
+  -- register between two of them is regular by its intervals. One of them has taken these steps and made these accesses, and its answers
+  -- have the numbers that are known
+  pub record AreSoFar (plan : ℕ → Doings T → Type 0) (opening : T) (n who : ℕ) (times : List ℕ) (writes : ℕ → WriteAccesses T)
+      (reads : ℕ → ReadAccesses T) : Type 0 where
     pub steps : List ℕ
     pub done : ℕ → Doings T
     pub schedule : IsSchedule n steps
     pub made : (i : ℕ) → i < n → (done i).times ≡ positions 1 i steps
     pub planned : (i : ℕ) → i < n → plan i (done i)
-    pub known : done who ≡ own
+    pub known : done who ≡ doings times writes reads
     pub numbers : ℕ → ℕ → List ℕ
+    pub numbered : (i : ℕ) → numbers i who ≡ (reads i).numbers
     pub registers : (i j : ℕ) → i < n → j < n → i ≢ j →
         IsRegular opening ((done i).writes j).items (intervals ((done i).writes j).begins ((done i).writes j).ends)
         ((done j).reads i).items (numbers i j) (intervals ((done j).reads i).begins ((done j).reads i).ends)

@@ -39,7 +39,7 @@ pub trait Calls<T: Lawful>: Sized + Drop {
     type Get: Drop;
 
     /// A receipt for the record that was written last.
-    type Told: Drop;
+    type Receipt: Drop;
 
     // The record that the cell opened with.
     ghost opening: { Self → T };
@@ -49,7 +49,7 @@ pub trait Calls<T: Lawful>: Sized + Drop {
 
     ghost is_get: { Self → Self.Get → Type 0 };
 
-    ghost is_told: { Self → Self.Told → Type 0 };
+    ghost is_receipt: { Self → Self.Receipt → Type 0 };
 
     // The records written with the pass.
     ghost written: { Self.Put → List T };
@@ -64,7 +64,7 @@ pub trait Calls<T: Lawful>: Sized + Drop {
     ghost told: { Self.Get → List T };
 
     // The record that a receipt names.
-    ghost named: { Self.Told → T };
+    ghost named: { Self.Receipt → T };
 
     // The control accesses made with the pass.
     ghost put_accesses: { Self.Put → ℕ };
@@ -83,9 +83,9 @@ pub trait Calls<T: Lawful>: Sized + Drop {
     ghost known: { Self.Get → Known T };
 
     // A time at which the receipt's record was written, and all the writes up to then.
-    ghost time_of: { Self.Told → ℕ };
+    ghost time_of: { Self.Receipt → ℕ };
 
-    ghost writes_of: { Self.Told → Known T };
+    ghost writes_of: { Self.Receipt → Known T };
 
     // The writes of which the pass was told, of each receipt that it learnt.
     ghost heard: { Self.Get → List (Known T) };
@@ -153,17 +153,17 @@ pub trait Calls<T: Lawful>: Sized + Drop {
 
     /// Gives a receipt for the record that was written last, which carries all the writes: once it is learnt, each answer may stand after
     /// that record by its law, and is that record or was written after it.
-    fn tell(&self, put: &mut Self::Put) -> Self::Told
+    fn tell(&self, put: &mut Self::Put) -> Self::Receipt
         requires { is_put self.now put.old }
-        ensures own { is_put self.now put.new × is_told self.now result }
+        ensures own { is_put self.now put.new × is_receipt self.now result }
         ensures same { (written put.new ≡ written put.old) × (put_accesses put.new ≡ put_accesses put.old) }
         ensures named { named result ≡ last_or (opening self.now) (written put.old) }
         ensures timed { (put_times put.new ≡ put_times put.old) × (time_of result ≡ (put_times put.old).clock) }
         ensures tells { writes_of result ≡ known_as (written put.old) (put_times put.old) };
 
     /// Takes a receipt in: later reads begin after the write of its record ended.
-    fn learn(&self, get: &mut Self::Get, receipt: Self::Told)
-        requires { is_get self.now get.old × is_told self.now receipt }
+    fn learn(&self, get: &mut Self::Get, receipt: Self::Receipt)
+        requires { is_get self.now get.old × is_receipt self.now receipt }
         ensures own { is_get self.now get.new }
         ensures same { (answers get.new ≡ answers get.old) × (get_accesses get.new ≡ get_accesses get.old) }
         ensures told { told get.new ≡ told get.old ++ named receipt ∷ [] }

@@ -41,7 +41,7 @@ pub trait Family<T: Planned>: Sized + Drop {
     type Seat: Drop;
 
     /// A receipt of a process for what it has written.
-    type Told: Drop;
+    type Receipt: Drop;
 
     // The record that each register opened with, how many processes there are, and the limit of which the records' plan speaks.
     ghost opening: { Self → T };
@@ -61,7 +61,7 @@ pub trait Family<T: Planned>: Sized + Drop {
     // Whether the seat or the receipt is of this family.
     ghost is_seat: { Self → Self.Seat → Type 0 };
 
-    ghost is_told: { Self → Self.Told → Type 0 };
+    ghost is_receipt: { Self → Self.Receipt → Type 0 };
 
     // The process, the last time of which it knows, and the times of its steps.
     ghost who: { Self.Seat → ℕ };
@@ -76,13 +76,13 @@ pub trait Family<T: Planned>: Sized + Drop {
     ghost reads: { Self.Seat → ℕ → ReadAccesses T };
 
     // Whose receipt it is, its time, the record that it names to a process, and all that was written to that one up to then.
-    ghost sender: { Self.Told → ℕ };
+    ghost sender: { Self.Receipt → ℕ };
 
-    ghost time_of: { Self.Told → ℕ };
+    ghost time_of: { Self.Receipt → ℕ };
 
-    ghost named: { Self.Told → ℕ → T };
+    ghost named: { Self.Receipt → ℕ → T };
 
-    ghost writes_of: { Self.Told → ℕ → Known T };
+    ghost writes_of: { Self.Receipt → ℕ → Known T };
 
     /// A family of `n` processes whose registers all hold `first`, with the seat of each process. The records' plan alone speaks of its
     /// limit.
@@ -112,7 +112,7 @@ pub trait Family<T: Planned>: Sized + Drop {
         ensures written { IsWriteAccess (writes seat.old to) (writes seat.new to) item.now }
         ensures others { KeepsOthers to (writes seat.old) (writes seat.new) × KeepsEach (reads seat.old) (reads seat.new) }
         ensures so_far { AreSoFar (T.plan (opening self.now) width (processes self.now) (limit self.now)) (opening self.now)
-            (processes self.now) (who seat.new) (doings (times seat.new) (writes seat.new) (reads seat.new)) };
+            (processes self.now) (who seat.new) (times seat.new) (writes seat.new) (reads seat.new) };
 
     /// Shows the record to each other process, rising: the same as so many calls of `write_from`, in fewer instructions.
     fn write_all_from(&self, seat: &mut Self::Seat, item: &T)
@@ -125,7 +125,7 @@ pub trait Family<T: Planned>: Sized + Drop {
         ensures row { OneByOne (IsWriteTo (is_seat self.now) who clock times writes reads width item.now) (who seat.old) seat.old
             (processes self.now - 1) seat.new }
         ensures so_far { AreSoFar (T.plan (opening self.now) width (processes self.now) (limit self.now)) (opening self.now)
-            (processes self.now) (who seat.new) (doings (times seat.new) (writes seat.new) (reads seat.new)) };
+            (processes self.now) (who seat.new) (times seat.new) (writes seat.new) (reads seat.new) };
 
     /// Shows one whole record of another process where it lies, so that nothing is copied. It is a record that was written, and by its law
     /// it may stand after each that this process saw or was told of that one.
@@ -137,7 +137,7 @@ pub trait Family<T: Planned>: Sized + Drop {
         ensures read { IsReadFrom (is_seat self.now) who clock times writes reads width (opening self.now) T.fits T.rises L.sees from
             (seat.old, seen.old) (seat.new, seen.new) }
         ensures so_far { AreSoFar (T.plan (opening self.now) width (processes self.now) (limit self.now)) (opening self.now)
-            (processes self.now) (who seat.new) (doings (times seat.new) (writes seat.new) (reads seat.new)) };
+            (processes self.now) (who seat.new) (times seat.new) (writes seat.new) (reads seat.new) };
 
     /// Shows one record of each other process, rising: the same as so many calls of `read_from`, in fewer instructions.
     fn read_all_from<L: Sees<T>>(&self, seat: &mut Self::Seat, seen: &mut L)
@@ -148,13 +148,13 @@ pub trait Family<T: Planned>: Sized + Drop {
             (who seat.old)
             (seat.old, seen.old) (processes self.now - 1) (seat.new, seen.new) }
         ensures so_far { AreSoFar (T.plan (opening self.now) width (processes self.now) (limit self.now)) (opening self.now)
-            (processes self.now) (who seat.new) (doings (times seat.new) (writes seat.new) (reads seat.new)) };
+            (processes self.now) (who seat.new) (times seat.new) (writes seat.new) (reads seat.new) };
 
     /// Gives a receipt for all that the process has written, which carries these writes.
-    fn tell(&self, seat: &mut Self::Seat) -> Self::Told
+    fn tell(&self, seat: &mut Self::Seat) -> Self::Receipt
         requires own { is_seat self.now seat.old }
         ensures own { is_seat self.now seat.new × (who seat.new ≡ who seat.old) }
-        ensures told { is_told self.now result × (sender result ≡ who seat.old) × (time_of result ≡ clock seat.old) }
+        ensures told { is_receipt self.now result × (sender result ≡ who seat.old) × (time_of result ≡ clock seat.old) }
         ensures named { (j : ℕ) → j < processes self.now → j ≢ who seat.old →
             named result j ≡ last_or (opening self.now) (writes seat.old j).items }
         ensures tells { (j : ℕ) → j < processes self.now → j ≢ who seat.old →
@@ -163,16 +163,16 @@ pub trait Family<T: Planned>: Sized + Drop {
         ensures calls { KeepsEach (writes seat.old) (writes seat.new) × KeepsEach (reads seat.old) (reads seat.new) };
 
     /// Gives a second receipt that tells the same, for one learner more.
-    fn duplicate(&self, told: &mut Self::Told) -> Self::Told
-        requires own { is_told self.now told.old }
+    fn duplicate(&self, told: &mut Self::Receipt) -> Self::Receipt
+        requires own { is_receipt self.now told.old }
         ensures same { told.new ≡ told.old }
-        ensures told { is_told self.now result × (sender result ≡ sender told.old) × (time_of result ≡ time_of told.old) }
+        ensures told { is_receipt self.now result × (sender result ≡ sender told.old) × (time_of result ≡ time_of told.old) }
         ensures tells { KeepsEach (named told.old) (named result) × KeepsEach (writes_of told.old) (writes_of result) };
 
     /// Takes a receipt in: what this process calls from now on begins later than all that its sender had done, and what it knows of the
     /// sender's register begins with what that one had really written to it.
-    fn learn(&self, seat: &mut Self::Seat, told: Self::Told)
-        requires own { is_seat self.now seat.old × is_told self.now told }
+    fn learn(&self, seat: &mut Self::Seat, told: Self::Receipt)
+        requires own { is_seat self.now seat.old × is_receipt self.now told }
         ensures own { is_seat self.now seat.new × (who seat.new ≡ who seat.old) }
         ensures later { (clock seat.old ≤ clock seat.new) × (time_of told ≤ clock seat.new) × (times seat.new ≡ times seat.old) }
         ensures heard { sender told ≢ who seat.old →
@@ -204,7 +204,7 @@ pub trait SoFar<T: Planned>: Family<T> {
         ensures same { seat.new ≡ seat.old }
         ensures so_far { AreSoFar (T.plan (Self.opening self.now) Self.width (Self.processes self.now) (Self.limit self.now))
             (Self.opening self.now) (Self.processes self.now) (Self.who seat.old)
-            (doings (Self.times seat.old) (Self.writes seat.old) (Self.reads seat.old)) };
+            (Self.times seat.old) (Self.writes seat.old) (Self.reads seat.old) };
 }
 
 /// A family that threads can share.

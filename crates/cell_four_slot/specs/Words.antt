@@ -17,7 +17,7 @@ use Rattle.cell_four_slot.specs.declared.notes.ReaderNotes.{ReaderNotes}
 use Rattle.cell_four_slot.specs.declared.cell.FourSlotCell.{FourSlotCell}
 use Rattle.cell_four_slot.specs.declared.cell.FourSlotPut.{FourSlotPut}
 use Rattle.cell_four_slot.specs.declared.cell.FourSlotGet.{FourSlotGet}
-use Rattle.cell_four_slot.specs.declared.cell.FourSlotTold.{FourSlotTold}
+use Rattle.cell_four_slot.specs.declared.cell.FourSlotReceipt.{FourSlotReceipt}
 
 module _ {T : Type 0} where
   abbrev pub cell_name : FourSlotCell T → Name T
@@ -38,8 +38,8 @@ module _ {T : Type 0} where
   abbrev pub is_get_of : FourSlotCell T → FourSlotGet T → Type 0
   is_get_of c g = IsName (record { table = g.seat.inner.table_id; opening = (get_notes g).opening.value }) (cell_name c)
 
-  abbrev pub is_told_of : FourSlotCell T → FourSlotTold T → Type 0
-  is_told_of c t = t.seat.inner.table_id ≡ c.table.inner.shared.table_id
+  abbrev pub is_receipt_of : FourSlotCell T → FourSlotReceipt T → Type 0
+  is_receipt_of c t = t.seat.inner.table_id ≡ c.table.inner.shared.table_id
 
   abbrev pub written_by : FourSlotPut T → List T
   written_by p = (put_notes p).written
@@ -51,14 +51,14 @@ module _ {T : Type 0} where
   told_to g = (get_notes g).told
 
   -- the record that a receipt names
-  abbrev pub named_by : FourSlotTold T → T
+  abbrev pub named_by : FourSlotReceipt T → T
   named_by t = (receipt_or (dated t.spare.value) t.seat.inner.me.0).item
 
   -- a time at which that record was written, and all the writes up to then
-  abbrev pub time_of : FourSlotTold T → ℕ
+  abbrev pub time_of : FourSlotReceipt T → ℕ
   time_of t = (receipt_or (dated t.spare.value) t.seat.inner.me.0).time
 
-  abbrev pub writes_of : FourSlotTold T → Known T
+  abbrev pub writes_of : FourSlotReceipt T → Known T
   writes_of t = (receipt_or (dated t.spare.value) t.seat.inner.me.0).writes
 
   -- the calls made with a pass, in the table's time; the numbers of the answers; the writes of which a reader knows; and those of which

@@ -7,14 +7,14 @@ ghost use Rattle.cell_contract.specs.Running.{last_or, IsAnswer, Settled, snap};
 ghost use Rattle.cell_contract.specs.Intervals.{AreAtomic, AreFirst, AreHeeded, HaveEnded, IsHeard, IsNextAnswer, IsNextCall};
 ghost use Rattle.cell_contract.specs.Intervals.{known_as, no_times, none_known};
 ghost use Rattle.cell_contract.specs.CallsSoFar.{AreCallsSoFar};
-ghost use Rattle.cell_four_slot.specs.Words.{opening_of, is_put_of, is_get_of, is_told_of, written_by, answers_of, at_hand_of};
+ghost use Rattle.cell_four_slot.specs.Words.{opening_of, is_put_of, is_get_of, is_receipt_of, written_by, answers_of, at_hand_of};
 ghost use Rattle.cell_four_slot.specs.Words.{told_to, named_by, write_events, read_events, writer_accesses, reader_accesses};
 ghost use Rattle.cell_four_slot.specs.Words.{pair_said, pair_shown};
 ghost use Rattle.cell_four_slot.specs.Words.{chosen_slot, held_by, HasChosen, put_times, get_times, numbers_of, known_to, time_of};
 ghost use Rattle.cell_four_slot.specs.Words.{heard_by, writes_of};
 
 use crate::bits::{bit_of, other_bit, set_bit, slot_of, word_of};
-use crate::cell::{FourSlotCell, FourSlotGet, FourSlotPut, FourSlotTold};
+use crate::cell::{FourSlotCell, FourSlotGet, FourSlotPut, FourSlotReceipt};
 use crate::table::FourSlotTable;
 use cell_contract::{Calls, Cell, Kept, Lawful, Lays, Spare, Whole};
 use std::alloc::{AllocError, Global};
@@ -102,7 +102,7 @@ impl<T: Lawful> Calls<T> for FourSlotCell<T> {
 
     type Get = FourSlotGet<T>;
 
-    type Told = FourSlotTold<T>;
+    type Receipt = FourSlotReceipt<T>;
 
     ghost opening = { opening_of };
 
@@ -110,7 +110,7 @@ impl<T: Lawful> Calls<T> for FourSlotCell<T> {
 
     ghost is_get = { is_get_of };
 
-    ghost is_told = { is_told_of };
+    ghost is_receipt = { is_receipt_of };
 
     ghost written = { written_by };
 
@@ -236,9 +236,9 @@ impl<T: Lawful> Calls<T> for FourSlotCell<T> {
         self.table.lend(&mut get.seat, slot, look)
     }
 
-    fn tell(&self, put: &mut FourSlotPut<T>) -> FourSlotTold<T>
+    fn tell(&self, put: &mut FourSlotPut<T>) -> FourSlotReceipt<T>
         requires { is_put_of self.now put.old }
-        ensures own { is_put_of self.now put.new × is_told_of self.now result }
+        ensures own { is_put_of self.now put.new × is_receipt_of self.now result }
         ensures same { (written_by put.new ≡ written_by put.old) × (writer_accesses put.new ≡ writer_accesses put.old) }
         ensures named { named_by result ≡ last_or (opening_of self.now) (written_by put.old) }
         ensures events { write_events put.new ≡ write_events put.old }
@@ -247,11 +247,11 @@ impl<T: Lawful> Calls<T> for FourSlotCell<T> {
     {
         let seat = self.table.tell(&mut put.seat);
         let spare = put.spare.again();
-        FourSlotTold { seat, spare }
+        FourSlotReceipt { seat, spare }
     }
 
-    fn learn(&self, get: &mut FourSlotGet<T>, receipt: FourSlotTold<T>)
-        requires { is_get_of self.now get.old × is_told_of self.now receipt }
+    fn learn(&self, get: &mut FourSlotGet<T>, receipt: FourSlotReceipt<T>)
+        requires { is_get_of self.now get.old × is_receipt_of self.now receipt }
         ensures own { is_get_of self.now get.new }
         ensures same { (answers_of get.new ≡ answers_of get.old) × (reader_accesses get.new ≡ reader_accesses get.old) }
         ensures told { told_to get.new ≡ told_to get.old ++ named_by receipt ∷ [] }
@@ -260,7 +260,7 @@ impl<T: Lawful> Calls<T> for FourSlotCell<T> {
         ensures numbers { (numbers_of get.new ≡ numbers_of get.old) × (known_to get.new ≡ known_to get.old) }
         ensures heard { heard_by get.new ≡ heard_by get.old ++ writes_of receipt ∷ [] }
     {
-        let FourSlotTold { seat, spare: _ } = receipt;
+        let FourSlotReceipt { seat, spare: _ } = receipt;
         self.table.hear(&mut get.seat, seat);
     }
 

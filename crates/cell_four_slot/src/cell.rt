@@ -71,7 +71,7 @@ pub struct FourSlotGet<T: Copy> {
 
 /// A receipt of a four-slot cell.
 #[derive(Drop)]
-pub struct FourSlotTold<T: Copy> {
+pub struct FourSlotReceipt<T: Copy> {
     pub(crate) seat: FourSlotSeat<T>,
     /// The opening: the record's default in proofs.
     pub(crate) spare: Spare<T>,

@@ -13,5 +13,5 @@ mod plays;
 mod table;
 
 pub use bits::{bit_of, other_bit, set_bit, slot_of, word_of};
-pub use cell::{FourSlotCell, FourSlotGet, FourSlotPut, FourSlotTold};
+pub use cell::{FourSlotCell, FourSlotGet, FourSlotPut, FourSlotReceipt};
 pub use notes::FourSlotSight;

@@ -13,7 +13,7 @@ use Rattle.cell_triple.specs.declared.notes.ReaderNotes.{ReaderNotes}
 use Rattle.cell_triple.specs.declared.cell.TripleCell.{TripleCell}
 use Rattle.cell_triple.specs.declared.cell.TriplePut.{TriplePut}
 use Rattle.cell_triple.specs.declared.cell.TripleGet.{TripleGet}
-use Rattle.cell_triple.specs.declared.cell.TripleTold.{TripleTold}
+use Rattle.cell_triple.specs.declared.cell.TripleReceipt.{TripleReceipt}
 
 module _ {T : Type 0} where
   abbrev pub cell_name : TripleCell T → Name T
@@ -34,8 +34,8 @@ module _ {T : Type 0} where
   abbrev pub is_get_of : TripleCell T → TripleGet T → Type 0
   is_get_of c g = IsName (record { table = g.seat.inner.table_id; opening = (get_notes g).opening.value }) (cell_name c)
 
-  abbrev pub is_told_of : TripleCell T → TripleTold T → Type 0
-  is_told_of c t = t.seat.inner.table_id ≡ c.table.inner.shared.table_id
+  abbrev pub is_receipt_of : TripleCell T → TripleReceipt T → Type 0
+  is_receipt_of c t = t.seat.inner.table_id ≡ c.table.inner.shared.table_id
 
   abbrev pub written_by : TriplePut T → List T
   written_by p = (put_notes p).written
@@ -51,14 +51,14 @@ module _ {T : Type 0} where
   told_to g = (get_notes g).told
 
   -- the record that a receipt names
-  abbrev pub named_by : TripleTold T → T
+  abbrev pub named_by : TripleReceipt T → T
   named_by t = (receipt_or (dated t.spare.value) t.seat.inner.me.0).item
 
   -- a time at which that record was written, and all the writes up to then
-  abbrev pub time_of : TripleTold T → ℕ
+  abbrev pub time_of : TripleReceipt T → ℕ
   time_of t = (receipt_or (dated t.spare.value) t.seat.inner.me.0).time
 
-  abbrev pub writes_of : TripleTold T → Known T
+  abbrev pub writes_of : TripleReceipt T → Known T
   writes_of t = (receipt_or (dated t.spare.value) t.seat.inner.me.0).writes
 
   -- the calls made with a pass, in the table's time; the numbers of the answers; the writes of which a reader knows; and those of which

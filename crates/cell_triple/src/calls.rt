@@ -3,14 +3,14 @@ ghost use Rattle.std.specs.Prelude.{◌≡◌, ℕ, ◌+◌, ◌<◌, ◌≤◌,
 ghost use Rattle.std.specs.Fn.{FnOnceTakesAt, FnOnceReturnsAt};
 ghost use Rattle.cell_contract.specs.Running.{last_or, IsAnswer};
 ghost use Rattle.cell_contract.specs.CallsSoFar.{AreCallsSoFar};
-ghost use Rattle.cell_triple.specs.Words.{opening_of, is_put_of, is_get_of, is_told_of, written_by, answers_of, at_hand_of, told_to};
+ghost use Rattle.cell_triple.specs.Words.{opening_of, is_put_of, is_get_of, is_receipt_of, written_by, answers_of, at_hand_of, told_to};
 ghost use Rattle.cell_triple.specs.Words.{named_by, swaps_of_put, loads_of, swaps_of, held_by, found_by, HasLooked};
 ghost use Rattle.cell_triple.specs.Words.{put_times, get_times, numbers_of, known_to, time_of, heard_by, writes_of};
 ghost use Rattle.cell_contract.specs.Intervals.{AreHeeded, IsNextAnswer, IsNextCall, no_times, none_known};
 ghost use Rattle.cell_triple.specs.Words.{get_notes};
 ghost use Rattle.cell_triple.specs.Lent.{placed_by};
 
-use crate::cell::{TripleCell, TripleGet, TriplePut, TripleTold};
+use crate::cell::{TripleCell, TripleGet, TriplePut, TripleReceipt};
 use crate::table::TripleTable;
 use cell_contract::{Calls, Cell, Kept, Lawful, Lays, Spare, Whole};
 use std::alloc::{AllocError, Global};
@@ -115,7 +115,7 @@ impl<T: Lawful> Calls<T> for TripleCell<T> {
 
     type Get = TripleGet<T>;
 
-    type Told = TripleTold<T>;
+    type Receipt = TripleReceipt<T>;
 
     ghost opening = { opening_of };
 
@@ -123,7 +123,7 @@ impl<T: Lawful> Calls<T> for TripleCell<T> {
 
     ghost is_get = { is_get_of };
 
-    ghost is_told = { is_told_of };
+    ghost is_receipt = { is_receipt_of };
 
     ghost written = { written_by };
 
@@ -236,14 +236,14 @@ impl<T: Lawful> Calls<T> for TripleCell<T> {
         self.table.lend(&mut get.seat, get.slot, look)
     }
 
-    fn tell(&self, put: &mut TriplePut<T>) -> TripleTold<T> {
+    fn tell(&self, put: &mut TriplePut<T>) -> TripleReceipt<T> {
         let seat = self.table.tell(&mut put.seat);
         let spare = put.spare.again();
-        TripleTold { seat, spare }
+        TripleReceipt { seat, spare }
     }
 
-    fn learn(&self, get: &mut TripleGet<T>, receipt: TripleTold<T>) {
-        let TripleTold { seat, spare: _ } = receipt;
+    fn learn(&self, get: &mut TripleGet<T>, receipt: TripleReceipt<T>) {
+        let TripleReceipt { seat, spare: _ } = receipt;
         self.table.hear(&mut get.seat, seat);
     }
 

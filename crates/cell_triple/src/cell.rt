@@ -60,7 +60,7 @@ pub struct TripleGet<T: Copy> {
 
 /// A receipt of a triple buffer.
 #[derive(Drop)]
-pub struct TripleTold<T: Copy> {
+pub struct TripleReceipt<T: Copy> {
     pub(crate) seat: TripleSeat<T>,
     /// The opening: the record's default in proofs.
     pub(crate) spare: Spare<T>,

@@ -13,5 +13,5 @@ mod notes;
 mod plays;
 mod table;
 
-pub use cell::{TripleCell, TripleGet, TriplePut, TripleTold};
+pub use cell::{TripleCell, TripleGet, TriplePut, TripleReceipt};
 pub use notes::TripleSight;

@@ -157,7 +157,7 @@ pub fn run<R: Clock + Print + Threads + Sync, F: SharedFamily<Posted<Item>>>(
 ) -> io::Result<()>
 where
     F::Seat: Send,
-    F::Told: Send,
+    F::Receipt: Send,
 {
     for n in PROCESSES {
         alone::<R, F>(rt, alloc, name, n)?;

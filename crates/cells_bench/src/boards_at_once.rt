@@ -242,7 +242,7 @@ fn measure<R: Clock + Threads + Sync, F: SharedFamily<Posted<Item>>>(
 ) -> io::Result<Total>
 where
     F::Seat: Send,
-    F::Told: Send,
+    F::Receipt: Send,
 {
     let start = Instant::now(rt)?;
     let cost = clock_cost(rt, start);
@@ -264,7 +264,7 @@ pub fn run<R: Clock + Print + Threads + Sync, F: SharedFamily<Posted<Item>>>(
 ) -> io::Result<()>
 where
     F::Seat: Send,
-    F::Told: Send,
+    F::Receipt: Send,
 {
     let total = measure::<R, F>(rt, alloc, n, count)?;
     let mode = format!(in alloc; "n{n}_t{count}")?;

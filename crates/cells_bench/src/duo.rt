@@ -143,7 +143,7 @@ fn measure<R: Clock + Threads + Sync, W: Shared, C: Cell<Record<W>>>(
 where
     C::Put: Send,
     C::Get: Send,
-    C::Told: Send,
+    C::Receipt: Send,
 {
     let start = Instant::now(rt)?;
     let times = Vec::with_capacity(alloc, KEPT)?;
@@ -204,7 +204,7 @@ pub fn run<R: Clock + Print + Threads + Sync, W: Shared, C: Cell<Record<W>>>(
 where
     C::Put: Send,
     C::Get: Send,
-    C::Told: Send,
+    C::Receipt: Send,
 {
     let mut measured = measure::<R, W, C>(rt, alloc)?;
     say_times(rt, name, bytes, &mut measured)

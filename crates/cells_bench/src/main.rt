@@ -154,7 +154,7 @@ fn on_cell<R: Clock + Print + Threads + Sync, W: Shared, C: Cell<Record<W>>>(
 where
     C::Put: Send,
     C::Get: Send,
-    C::Told: Send,
+    C::Receipt: Send,
 {
     match asked {
         Asked::Measures => {
@@ -197,7 +197,7 @@ fn on_board<R: Clock + Print + Threads + Sync, F: SharedFamily<Posted<Item>>>(
 ) -> io::Result<()>
 where
     F::Seat: Send,
-    F::Told: Send,
+    F::Receipt: Send,
 {
     match asked {
         Asked::Measures => boards::run::<R, F>(rt, alloc, name),

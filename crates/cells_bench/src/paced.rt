@@ -137,7 +137,7 @@ fn measure<R: Clock + Threads + Sync, W: Shared, C: Cell<Record<W>>>(
 where
     C::Put: Send,
     C::Get: Send,
-    C::Told: Send,
+    C::Receipt: Send,
 {
     let start = Instant::now(rt)?;
     let writes = Times::new(alloc)?;
@@ -189,7 +189,7 @@ pub fn run<R: Clock + Print + Threads + Sync, W: Shared, C: Cell<Record<W>>>(
 where
     C::Put: Send,
     C::Get: Send,
-    C::Told: Send,
+    C::Receipt: Send,
 {
     let mut measured = measure::<R, W, C>(rt, alloc)?;
     say_measured(rt, name, bytes, &mut measured)

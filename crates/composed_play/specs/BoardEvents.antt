@@ -1,6 +1,8 @@
--- The events of a composed board: the next step of a process is the next event of the cell whose access stands next for it. The
--- rules of the matrix count where that access ends. This is this project's own, over the events of the four-slot cell.
-use Rattle.std.specs.Prelude.{◌≡◌, ℕ, ◌+◌, ◌-◌, ◌*◌, ◌≤◌, List, length, replicate, slice_get, slice_set, Option, None, Some, nat_lt, nat_eq}
+-- The events of a composed board: the next step of a process is the next event of the cell whose access stands next for
+-- it. The rules of the matrix count where that access ends. This is this project's own, over the events of the
+-- four-slot cell.
+use Rattle.std.specs.Prelude.{◌≡◌, ℕ, ◌+◌, ◌-◌, ◌*◌, ◌≤◌, List, length, replicate, slice_get, slice_set, Option, None}
+use Rattle.std.specs.Prelude.{Some, nat_lt, nat_eq}
 use Rattle.std.specs.Prelude.{if◌then◌else◌}
 use Rattle.history_core.specs.declared.wish.Wish.{Wish}
 use Rattle.four_slot_core.specs.declared.state.State.{State}
@@ -8,7 +10,8 @@ use Rattle.four_slot_core.specs.declared.state.Stage.{Stage}
 use Rattle.four_slot_core.specs.declared.state.Stage.TheVariants.{W1, W2, W3, W4, W5}
 use Rattle.four_slot_core.specs.declared.state.ReadStage.{ReadStage}
 use Rattle.four_slot_core.specs.declared.state.ReadStage.TheVariants.{R1, R2, R3, R4, R5}
-use Rattle.four_slot_core.specs.Events.{after_read as after_read_event, after_write as after_write_event, next_read, next_write}
+use Rattle.four_slot_core.specs.Events.{after_read as after_read_event, after_write as after_write_event, next_read}
+use Rattle.four_slot_core.specs.Events.{next_write}
 use Rattle.four_slot_core.specs.Events.{opening_state, slot_number}
 use Rattle.matrix_core.specs.declared.stamp.Stamped.{Stamped}
 use Rattle.matrix_core.specs.declared.progress.Progress.{Progress}
@@ -25,13 +28,15 @@ module _ {R : Type 0} where
   abbrev pub board_size : Board R → ℕ
   board_size b = length b.lines
 
-  -- what an event of a read of its column makes of the progress of process i: the wish counts at the first, the answer at the last
+  -- what an event of a read of its column makes of the progress of process i: the wish counts at the first, the answer
+  -- at the last
   abbrev pub heard : ℕ → ℕ → ℕ → Wish R → ReadStage (Stamped R) → Progress R → Progress R
   heard n limit i wish R1 line = begun wish line
   heard n limit i wish R2 line = line
   heard n limit i wish R3 line = line
   heard n limit i wish R4 line = line
-  heard n limit i wish (R5 answer) line = if nat_eq (line.done + 2) n then chosen limit i (gathered answer line) else gathered answer line
+  heard n limit i wish (R5 answer) line =
+      if nat_eq (line.done + 2) n then chosen limit i (gathered answer line) else gathered answer line
 
   -- and what an event of a write of its row makes of it
   abbrev pub posted : ℕ → Stage → Progress R → Progress R

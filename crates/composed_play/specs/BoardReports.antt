@@ -1,7 +1,7 @@
--- The report of a composed board: what each term gave, one after the other, and what is promised of it. A cell of the board is
--- clear and fresh by the slots of the report and the positions of the schedule (L. Lamport, On Interprocess Communication, Parts I
--- and II, Distributed Computing 1, 1986; H. Simpson, Four-slot fully asynchronous communication mechanism, IEE Proceedings E, 1990).
--- The composition is this project's own.
+-- The report of a composed board: what each term gave, one after the other, and what is promised of it. A cell of the
+-- board is clear and fresh by the slots of the report and the positions of the schedule (L. Lamport, On Interprocess
+-- Communication, Parts I and II, Distributed Computing 1, 1986; H. Simpson, Four-slot fully asynchronous communication
+-- mechanism, IEE Proceedings E, 1990). The composition is this project's own.
 use Rattle.std.specs.Prelude.{◌≡◌, ℕ, ◌+◌, ◌-◌, ◌*◌, ◌<◌, List, [], ◌∷◌, ◌++◌, length, slice_get, Option, Some, IsSome}
 use Rattle.history_core.specs.declared.history.Op.{Op}
 use Rattle.history_core.specs.declared.wish.PlayError.{PlayError}
@@ -42,10 +42,10 @@ pub record BoardPart (R : Type 0) : Type 0 where
   pub order : List ℕ
 
 module _ {R : Type 0} where
-  -- a term's part came about so, where the term begins at the position `at` and opens with this record: its operations are the
-  -- schedule's; `chosen i k` is what operation k of process i chose, and `slot i k` has the slots of its accesses, by a run of
-  -- the board; each cell is clear and over safe slots, and fresh, which is so of a read with the number of the write whose record it
-  -- answers; the choices follow the law of choices, and the order is by stamp
+  -- a term's part came about so, where the term begins at the position `at` and opens with this record: its operations
+  -- are the schedule's; `chosen i k` is what operation k of process i chose, and `slot i k` has the slots of its
+  -- accesses, by a run of the board; each cell is clear and over safe slots, and fresh, which is so of a read with the
+  -- number of the write whose record it answers; the choices follow the law of choices, and the order is by stamp
   pub record IsBoardPart (at : ℕ) (opening noise : R) (term : MatrixTerm R) (part : BoardPart R) : Type 0 where
     pub limit : part.limit ≡ term.limit
     pub played : IsPlayed at (board_span term) part.ops
@@ -53,9 +53,11 @@ module _ {R : Type 0} where
     pub slot : ℕ → ℕ → ℕ → Option ℕ
     pub run : IsBoardRun at (board_span term) opening noise part.ops part.stamps slot chosen
     pub slots : ListsSlots at (board_span term) part.ops slot part.slots
-    pub clear : (i j write read : ℕ) → other i write ≡ j → write + 1 < length term.plans → other j read ≡ i → read + 1 < length term.plans
+    pub clear : (i j write read : ℕ) → other i write ≡ j → write + 1 < length term.plans → other j read ≡ i →
+        read + 1 < length term.plans
         → IsClear (row_accesses at (board_span term) slot i write) (column_accesses at (board_span term) slot j read)
-    pub fresh : (i j write read : ℕ) → other i write ≡ j → write + 1 < length term.plans → other j read ≡ i → read + 1 < length term.plans
+    pub fresh : (i j write read : ℕ) → other i write ≡ j → write + 1 < length term.plans → other j read ≡ i →
+        read + 1 < length term.plans
         → (m : ℕ) → IsSome ((column_accesses at (board_span term) slot j read).at m 4)
         → (n : ℕ) × IsFreshRead (row_accesses at (board_span term) slot i write) (column_accesses at (board_span term) slot j read) m n
         × (slice_get (cell_trace at (board_span term) opening noise chosen i j).answers m
@@ -73,7 +75,8 @@ module _ {R : Type 0} where
   AreBoardParts at opening noise (term ∷ terms) [] = ⊥
   AreBoardParts at opening noise (term ∷ terms) (part ∷ parts) =
       IsBoardPart at opening noise term part
-      × ((next : R) × (latest opening part.ops part.order ≡ Some next) × AreBoardParts (at + length term.steps) next noise terms parts)
+      × ((next : R) × (latest opening part.ops part.order ≡ Some next) ×
+      AreBoardParts (at + length term.steps) next noise terms parts)
 
   -- a part of the history
   abbrev pub history_part : BoardPart R → Part R
@@ -109,8 +112,8 @@ module _ {R : Type 0} where
     pub refusals : RefusesLawfully report.history.terms report.history.ops report.order
     pub run : BoardCameAbout schedule report
 
-  -- a schedule is refused at the first step of a process that has no operation left, or, where each step has one, for want
-  -- of memory
+  -- a schedule is refused at the first step of a process that has no operation left, or, where each step has one, for
+  -- want of memory
   abbrev pub IsBoardRefused : List (MatrixTerm R) → PlayError → Type 0
   IsBoardRefused terms NoMemory = HasOperations (board_spans terms)
   IsBoardRefused terms (TooManySteps position) = IsFirstOverrun (board_spans terms) position

@@ -1,5 +1,5 @@
--- The run of a composed board through the steps of a term: each step is the next event of its process, whose operation does what
--- is planned. This is this project's own.
+-- The run of a composed board through the steps of a term: each step is the next event of its process, whose operation
+-- does what is planned. This is this project's own.
 use Rattle.std.specs.Prelude.{ℕ, ◌+◌, ◌-◌, ◌/◌, List, [], ◌∷◌, ◌++◌, length, take, slice_get, Option, None, Some}
 use Rattle.history_core.specs.declared.wish.Wish.{Wish}
 use Rattle.history_core.specs.declared.wish.Wish.TheVariants.{Read}
@@ -21,11 +21,13 @@ module _ {R : Type 0} where
   -- the board after more steps
   abbrev pub board_on : Span R → List ℕ → Board R → List ℕ → Board R
   board_on span done b [] = b
-  board_on span done b (who ∷ steps) = board_on span (done ++ who ∷ []) (after_event b who (wish_after span done who)) steps
+  board_on span done b (who ∷ steps) =
+      board_on span (done ++ who ∷ []) (after_event b who (wish_after span done who)) steps
 
   -- the board after these first steps of a term
   abbrev pub board_after : Span R → R → R → List ℕ → Board R
-  board_after span opening noise steps = board_on span [] (opening_board (length span.plans) span.limit opening noise) steps
+  board_after span opening noise steps =
+      board_on span [] (opening_board (length span.plans) span.limit opening noise) steps
 
   abbrev pub own_at : Span R → R → R → ℕ → ℕ → Option ℕ → Stamped R
   own_at span opening noise at i None = first_record opening

@@ -1,7 +1,8 @@
--- The composed board: a matrix whose cells are four-slot cells (H. Simpson, Four-slot fully asynchronous communication mechanism,
--- IEE Proceedings E, 1990), each of which makes one event at each step that is its. Which steps those are, and with them the
--- accesses of each cell, the schedule says by itself. The composition is this project's own.
-use Rattle.std.specs.Prelude.{◌≡◌, ◌≢◌, ℕ, ◌+◌, ◌-◌, ◌*◌, ◌/◌, ◌%◌, ◌<◌, List, [], ◌∷◌, ◌++◌, length, slice_get, Option, None, Some}
+-- The composed board: a matrix whose cells are four-slot cells (H. Simpson, Four-slot fully asynchronous communication
+-- mechanism, IEE Proceedings E, 1990), each of which makes one event at each step that is its. Which steps those are,
+-- and with them the accesses of each cell, the schedule says by itself. The composition is this project's own.
+use Rattle.std.specs.Prelude.{◌≡◌, ◌≢◌, ℕ, ◌+◌, ◌-◌, ◌*◌, ◌/◌, ◌%◌, ◌<◌, List, [], ◌∷◌, ◌++◌, length, slice_get, Option}
+use Rattle.std.specs.Prelude.{None, Some}
 use Rattle.std.specs.Prelude.{Bool, ◌&&◌, nat_eq, nat_le, nat_lt, if◌then◌else◌}
 use Rattle.history_core.specs.declared.history.Op.{Op}
 use Rattle.history_core.specs.declared.history.Kind.TheVariants.{Write, Refused}
@@ -29,10 +30,11 @@ event_after accesses done who = record { who = who; number = steps_of who done %
 -- steps as events, where those of `done` come before them
 abbrev pub events_after : ℕ → List ℕ → List ℕ → List Event
 events_after accesses done [] = []
-events_after accesses done (who ∷ steps) = event_after accesses done who ∷ events_after accesses (done ++ who ∷ []) steps
+events_after accesses done (who ∷ steps) =
+    event_after accesses done who ∷ events_after accesses (done ++ who ∷ []) steps
 
--- of n processes, whether an event belongs to the write of process i to the cell that process j reads, and whether to the read of
--- process j of the cell that process i writes
+-- of n processes, whether an event belongs to the write of process i to the cell that process j reads, and whether to
+-- the read of process j of the cell that process i writes
 abbrev pub is_write_of : ℕ → ℕ → ℕ → Event → Bool
 is_write_of n i j e = nat_eq e.who i && (nat_le (n - 1) (e.number / 5) && nat_eq (other i (e.number / 5 - (n - 1))) j)
 
@@ -54,10 +56,11 @@ module _ {R : Type 0} where
 
   -- cell (i, j) after these steps, where write k of it takes what operation k of process i chose
   abbrev pub cell_trace : ℕ → Span R → R → R → (ℕ → ℕ → Stamped R) → ℕ → ℕ → Trace (Stamped R)
-  cell_trace at span opening noise chosen i j = trace (first_record opening) (noise_record noise) (chosen i) (cell_moments at span i j)
+  cell_trace at span opening noise chosen i j =
+      trace (first_record opening) (noise_record noise) (chosen i) (cell_moments at span i j)
 
-  -- the accesses of cell (i, j) by the schedule, where `slot who k access` is the slot of this access of operation k of a process:
-  -- the writer's is number `write` of its row, the reader's number `read` of its column
+  -- the accesses of cell (i, j) by the schedule, where `slot who k access` is the slot of this access of operation k of
+  -- a process: the writer's is number `write` of its row, the reader's number `read` of its column
   abbrev pub row_accesses : ℕ → Span R → (ℕ → ℕ → ℕ → Option ℕ) → ℕ → ℕ → Accesses
   row_accesses at span slot i write = record {
     at = λ k e. access_at at span i k ((length span.plans - 1 + write) * 5 + e);
@@ -70,8 +73,10 @@ module _ {R : Type 0} where
     slot = λ k. slot j k read;
   }
 
-  -- what operation k saw: the answer of each cell of its column, and the newest record of its own process; and it chose by kind
-  pub record SeesCells (at : ℕ) (span : Span R) (opening noise : R) (chosen : ℕ → ℕ → Stamped R) (c : Choice R) (k : ℕ) : Type 0 where
+  -- what operation k saw: the answer of each cell of its column, and the newest record of its own process; and it chose
+  -- by kind
+  pub record SeesCells (at : ℕ) (span : Span R) (opening noise : R) (chosen : ℕ → ℕ → Stamped R) (c : Choice R)
+      (k : ℕ) : Type 0 where
     pub answers : List (Stamped R)
     pub each : length answers + 1 ≡ length span.plans
     pub answered : (read : ℕ) (answer : Stamped R) → slice_get answers read ≡ Some answer
@@ -83,13 +88,17 @@ module _ {R : Type 0} where
   pub record IsBoardRun (at : ℕ) (span : Span R) (opening noise : R) (ops : List (Op R)) (stamps : List (Option Stamp))
       (slot : ℕ → ℕ → ℕ → Option ℕ) (chosen : ℕ → ℕ → Stamped R) : Type 0 where
     pub long : length stamps ≡ length ops
-    pub sees : (p k t : ℕ) (op : Op R) → slice_get ops p ≡ Some op → IsOperation at span k op → chooses_at at span 5 op.who k ≡ Some t
+    pub sees : (p k t : ℕ) (op : Op R) → slice_get ops p ≡ Some op → IsOperation at span k op →
+        chooses_at at span 5 op.who k ≡ Some t
         → SeesCells at span opening noise chosen (choice_at chosen p k op) k
-    pub told : (p k t : ℕ) (op : Op R) → slice_get ops p ≡ Some op → IsOperation at span k op → chooses_at at span 5 op.who k ≡ Some t →
+    pub told : (p k t : ℕ) (op : Op R) → slice_get ops p ≡ Some op → IsOperation at span k op →
+        chooses_at at span 5 op.who k ≡ Some t →
         slice_get stamps p ≡ Some (Some (chosen op.who k).stamp)
-    pub untold : (p k : ℕ) (op : Op R) → slice_get ops p ≡ Some op → IsOperation at span k op → chooses_at at span 5 op.who k ≡ None →
+    pub untold : (p k : ℕ) (op : Op R) → slice_get ops p ≡ Some op → IsOperation at span k op →
+        chooses_at at span 5 op.who k ≡ None →
         slice_get stamps p ≡ Some None
-    pub written : (p k t : ℕ) (op : Op R) → slice_get ops p ≡ Some op → IsOperation at span k op → chooses_at at span 5 op.who k ≡ Some t →
+    pub written : (p k t : ℕ) (op : Op R) → slice_get ops p ≡ Some op → IsOperation at span k op →
+        chooses_at at span 5 op.who k ≡ Some t →
         op.kind ≡ Write → op.item ≡ Some (chosen op.who k).item
     pub ended : (p k end : ℕ) (op : Op R) → slice_get ops p ≡ Some op → IsOperation at span k op → op.ends ≡ Some end →
         op.item ≡ Some (chosen op.who k).item

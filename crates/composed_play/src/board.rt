@@ -21,8 +21,8 @@ use matrix_core::{
 use std::alloc::{AllocError, Global};
 use std::marker::Model;
 
-/// The board of n processes: process i writes cell (i, j) and process j reads it. The cells stand row after row; cell (i, i)
-/// isn't used.
+/// The board of n processes: process i writes cell (i, j) and process j reads it. The cells stand row after row; cell
+/// (i, i) isn't used.
 #[derive(Drop)]
 pub struct BoardCore<R> {
     limit: u64,
@@ -39,8 +39,8 @@ impl<R> Model for BoardCore<R> {
 }
 
 impl<R: Copy> BoardCore<R> {
-    /// The board of `n` processes in which every record is the opening, with tag 0 of writer 0. A read of a cell whose slot access
-    /// meets a write of the same slot answers `noise`, with the greatest tag.
+    /// The board of `n` processes in which every record is the opening, with tag 0 of writer 0. A read of a cell whose
+    /// slot access meets a write of the same slot answers `noise`, with the greatest tag.
     pub fn new(
         alloc: Global,
         n: usize,
@@ -95,8 +95,8 @@ impl<R: Copy> BoardCore<R> {
         greatest_of(&self.lines, opening)
     }
 
-    /// The next step of a process: one event of the cell whose access stands next for it. The wish counts at the first step of an
-    /// operation and has no effect at the others. Tells the slot that the event chose, if it chose one.
+    /// The next step of a process: one event of the cell whose access stands next for it. The wish counts at the first
+    /// step of an operation and has no effect at the others. Tells the slot that the event chose, if it chose one.
     pub fn step(&mut self, process: usize, wish: Wish<R>) -> Option<u8>
         requires { process < board_size self.old }
         ensures board { self.new ≡ after_event self.old process wish }

@@ -13,8 +13,8 @@ use history_core::{History, Items, Op, PlayError, Term};
 use matrix_core::{BoardReport, BoardSchedule, Cells, Stamp, first_overrun, list_last_term};
 use std::alloc::{AllocError, Global};
 
-/// Plays a schedule over composed boards: matrices whose cells are four-slot cells, stepped control bit by control bit and slot
-/// by slot.
+/// Plays a schedule over composed boards: matrices whose cells are four-slot cells, stepped control bit by control bit
+/// and slot by slot.
 pub fn play_board<R: Copy>(
     alloc: Global,
     schedule: &BoardSchedule<R>,

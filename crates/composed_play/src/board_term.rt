@@ -14,8 +14,8 @@ use matrix_core::{MatrixTerm, Progress, Stamp, begun_op, chose, ended, filled, p
 use std::alloc::{AllocError, Global};
 use std::marker::Model;
 
-/// Where a process is in its plan: the number of its operation, the steps of it that are made, and the place that it has among the
-/// operations of all processes.
+/// Where a process is in its plan: the number of its operation, the steps of it that are made, and the place that it
+/// has among the operations of all processes.
 #[derive(Clone, Copy)]
 pub struct BoardSeat {
     pub place: usize,

@@ -15,8 +15,9 @@ ghost use Rattle.matrix_core.specs.Lines.{first_record, other};
 ghost use Rattle.composed_play.specs.Boards.{cell_trace, column_accesses, IsBoardRun, noise_record, row_accesses, SeesCells};
 ghost use Rattle.composed_play.specs.BoardSteps.{chosen_in};
 
-/// The run of a term of a composed board has choices by the law of choices. Each of its cells is clear and fresh, by the slots of the
-/// report and the positions of the schedule, and a read of it answers the record with the number of its source.
+/// The run of a term of a composed board has choices by the law of choices. Each of its cells is clear and fresh, by
+/// the slots of the report and the positions of the schedule, and a read of it answers the record with the number of
+/// its source.
 pub fn boards_choose<R>()
     ensures chosen { (at : ℕ) (span : Span R) (opening noise : R) (ops : List (Op R)) (stamps : List (Option Stamp))
         (slot : ℕ → ℕ → ℕ → Option ℕ) (chosen : ℕ → ℕ → Stamped R) →
@@ -42,8 +43,8 @@ pub fn boards_are_over_safe_slots<R>()
         IsOverSafeSlots (first_record opening) (noise_record noise) (chosen i) (cell_trace at span opening noise chosen i j) }
 {}
 
-/// Each operation that chooses in the steps of a term of a composed board has a kind, and saw the answers of the cells of its column,
-/// each of which is a cell stepped at the positions of its accesses.
+/// Each operation that chooses in the steps of a term of a composed board has a kind, and saw the answers of the cells
+/// of its column, each of which is a cell stepped at the positions of its accesses.
 pub fn boards_see<R>()
     ensures { (at : ℕ) (span : Span R) (opening noise : R) → IsCut 5 span → ((step : ℕ) → ¬ Overruns span step) → (i k t : ℕ) →
         chooses_at at span 5 i k ≡ Some t →
@@ -51,8 +52,8 @@ pub fn boards_see<R>()
         c.kind ≡ kind → SeesCells at span opening noise (chosen_in at span opening noise) c k) }
 {}
 
-/// Two runs of one term of a composed board agree: on what each operation chose, on the slot of each access, and on the stamps and
-/// answers that are told. So the relation is as exact as a function of the schedule.
+/// Two runs of one term of a composed board agree: on what each operation chose, on the slot of each access, and on the
+/// stamps and answers that are told. So the relation is as exact as a function of the schedule.
 pub fn boards_agree<R>()
     ensures chosen { (at : ℕ) (span : Span R) (opening noise : R) (ops others : List (Op R)) (stamps other_stamps : List (Option Stamp))
         (slot other_slot : ℕ → ℕ → ℕ → Option ℕ) (chosen other_chosen : ℕ → ℕ → Stamped R) → IsCut 5 span → IsPlayed at span ops →

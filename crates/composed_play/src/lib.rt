@@ -1,4 +1,5 @@
-//! The composed board, a matrix each of whose cells is a four-slot cell, stepped event by event, and the player of its schedules.
+//! The composed board, a matrix each of whose cells is a four-slot cell, stepped event by event, and the player of its
+//! schedules.
 #![tactic(auto)]
 
 mod board;

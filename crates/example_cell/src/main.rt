@@ -151,7 +151,7 @@ fn at_once<R: Threads + Wait + Sync, C: Cell<Sample>>(
 where
     C::Put: Send,
     C::Get: Send,
-    C::Told: Send,
+    C::Receipt: Send,
     requires own { C.is_put cell.now sensor.old.put × C.is_get cell.now loops.old.get }
     requires written { (last_or (C.opening cell.now) (C.written sensor.old.put)).number ≡ sensor.old.number }
     requires first { sensor.old.number ≡ 0 }
@@ -189,7 +189,7 @@ fn told<R: Threads + Wait + Sync + Copy + Send + 'static, C: Cell<Sample>>(
 where
     C::Put: Send,
     C::Get: Send,
-    C::Told: Send,
+    C::Receipt: Send,
     ensures whole { IfOk result (λ r. (r.1.low ≤ r.1.reading) × (r.1.reading ≤ r.1.high)) }
     ensures no_older { IfOk result (λ r. r.0 ≤ r.1.number) }
 {

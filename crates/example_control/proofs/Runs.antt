@@ -9,7 +9,7 @@ use Rattle.matrix_core.specs.Choices.{IsAtMost}
 use Rattle.board_history.specs.BoardRuns.{Called}
 use Rattle.board_live.specs.declared.board.Board.{Board}
 use Rattle.board_live.specs.declared.board.Pass.{Pass}
-use Rattle.board_live.specs.declared.board.TagsEnded.{TagsEnded}
+use Rattle.board_live.specs.declared.board.Refused.{Refused}
 use Rattle.board_live.specs.declared.receipts.Receipt.{Receipt}
 use Rattle.board_live.specs.declared.record.Posted.{Posted}
 use Rattle.board_live.specs.Passes.{ChoosesStamp, HasMade, IsCall, IsPass, kind_of}
@@ -35,7 +35,7 @@ last_of P (y ∷ ys) x h = last_of P ys x (All-tail P y (ys ++ x ∷ []) h)
 
 module _ {F S T : Type 0} (words : FamilyWords F (Posted Control) S T) (board : Board Control F S T) where
   -- a read gave this record, and a write put what was made of it
-  pub turn : (make : Control → Control) (p q r : Pass Control F S T) (seen : Posted Control) (result : Result Stamp (TagsEnded Control))
+  pub turn : (make : Control → Control) (p q r : Pass Control F S T) (seen : Posted Control) (result : Result Stamp (Refused Control))
       → IsPass words in_order board q → IsCall words in_order board Read p q seen → q.own ≡ seen → IsPass words in_order board r
       → (chosen : Posted Control) × IsCall words in_order board (kind_of result) q r chosen
       × ChoosesStamp board.limit q.process (make seen.item) chosen r.own result
@@ -61,7 +61,7 @@ module _ {F S T : Type 0} (words : FamilyWords F (Posted Control) S T) (board : 
 
   module _ (Makes : (Control → Control) → Type 0) (old : Pass Control F S T) where
     pub has_run : (calls : List (Called Control)) (make : Control → Control) (p q : Pass Control F S T)
-        (result : Result Stamp (TagsEnded Control)) → Turns words board Makes old calls p → Makes make →
+        (result : Result Stamp (Refused Control)) → Turns words board Makes old calls p → Makes make →
         TakesTurn words board make p q result
         → HasTakenTurns words board Makes old q
     has_run calls make p q result h makes t = record {

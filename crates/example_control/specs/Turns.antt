@@ -8,7 +8,7 @@ use Rattle.matrix_core.specs.Stamps.{first_stamp}
 use Rattle.board_history.specs.BoardRuns.{Called, Did}
 use Rattle.board_live.specs.declared.board.Board.{Board}
 use Rattle.board_live.specs.declared.board.Pass.{Pass}
-use Rattle.board_live.specs.declared.board.TagsEnded.{TagsEnded}
+use Rattle.board_live.specs.declared.board.Refused.{Refused}
 use Rattle.board_live.specs.declared.record.Posted.{Posted}
 use Rattle.board_live.specs.Ends.{IsAtomicRun}
 use Rattle.board_live.specs.Passes.{ChoosesStamp, HasMade, IsCall, IsPass, kind_of}
@@ -64,7 +64,7 @@ module _ {F S T : Type 0} (words : FamilyWords F (Posted Control) S T) where
 
   -- a write of this record, which is refused where the tags have ended
   pub record MakesWrite (board : Board Control F S T) (item : Control) (old new : Pass Control F S T)
-      (result : Result Stamp (TagsEnded Control)) : Type 0 where
+      (result : Result Stamp (Refused Control)) : Type 0 where
     pub of : IsPass words in_order board new
     pub seen : Posted Control
     pub call : IsCall words in_order board (kind_of result) old new seen
@@ -72,14 +72,14 @@ module _ {F S T : Type 0} (words : FamilyWords F (Posted Control) S T) where
 
   -- *A turn of a task that writes*: it reads, and writes what it makes of the record that it read
   pub record TakesTurn (board : Board Control F S T) (make : Control → Control) (old new : Pass Control F S T)
-      (result : Result Stamp (TagsEnded Control)) : Type 0 where
+      (result : Result Stamp (Refused Control)) : Type 0 where
     pub between : Pass Control F S T
     pub reads : MakesRead board old between
     pub writes : MakesWrite board (make between.own.item) between new result
 
   -- the two calls of a turn, after those before
   abbrev pub with_turn : (board : Board Control F S T) (make : Control → Control) (old new : Pass Control F S T)
-      (result : Result Stamp (TagsEnded Control)) → List (Called Control) → TakesTurn board make old new result → List (Called Control)
+      (result : Result Stamp (Refused Control)) → List (Called Control) → TakesTurn board make old new result → List (Called Control)
   with_turn board make old new result calls t =
       (calls ++ call_of board Read old t.between t.between.own t.reads.call ∷ [])
       ++ call_of board (kind_of result) t.between new t.writes.seen t.writes.call ∷ []
@@ -89,7 +89,7 @@ module _ {F S T : Type 0} (words : FamilyWords F (Posted Control) S T) where
       : List (Called Control) → Pass Control F S T → Type 0 where
     no_turn : Turns board Makes old [] old
     one_more : (calls : List (Called Control)) (make : Control → Control) (now new : Pass Control F S T)
-        (result : Result Stamp (TagsEnded Control)) → Turns board Makes old calls now →
+        (result : Result Stamp (Refused Control)) → Turns board Makes old calls now →
         Makes make → (t : TakesTurn board make now new result)
         → Turns board Makes old (with_turn board make now new result calls t) new
 

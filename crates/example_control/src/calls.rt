@@ -6,7 +6,7 @@ ghost use Rattle.example_control.specs.Turns.{MakesRead, TakesTurn, command_of, 
 ghost use Rattle.matrix_core.specs.Choices.{IsAtMost};
 
 use crate::control::Control;
-use board_live::{Board, Pass, Posted, Receipt, TagsEnded};
+use board_live::{Board, Pass, Posted, Receipt, Refused};
 use cell_contract::Family;
 use matrix_core::Stamp;
 
@@ -16,7 +16,7 @@ pub fn set_limits<F: Family<Posted<Control>>>(
     pass: &mut Pass<Control, F>,
     low: u64,
     high: u64,
-) -> Result<Stamp, TagsEnded<Control>>
+) -> Result<Stamp, Refused<Control>>
     requires pass { IsPass ⟦<F as Family<Posted<Control>>>⟧ in_order board.now pass.old }
     requires limits { low ≤ high }
     ensures pass { IsPass ⟦<F as Family<Posted<Control>>>⟧ in_order board.now pass.new }
@@ -32,7 +32,7 @@ pub fn publish<F: Family<Posted<Control>>>(
     board: &Board<Control, F>,
     pass: &mut Pass<Control, F>,
     reading: u64,
-) -> Result<Stamp, TagsEnded<Control>>
+) -> Result<Stamp, Refused<Control>>
     requires { IsPass ⟦<F as Family<Posted<Control>>>⟧ in_order board.now pass.old }
     ensures pass { IsPass ⟦<F as Family<Posted<Control>>>⟧ in_order board.now pass.new }
     ensures process { pass.new.process ≡ pass.old.process }
@@ -66,7 +66,7 @@ pub fn publish_and_tell<F: Family<Posted<Control>>>(
     board: &Board<Control, F>,
     pass: &mut Pass<Control, F>,
     reading: u64,
-) -> Result<Receipt<Control, F>, TagsEnded<Control>>
+) -> Result<Receipt<Control, F>, Refused<Control>>
     requires { IsPass ⟦<F as Family<Posted<Control>>>⟧ in_order board.now pass.old }
     ensures pass { IsPass ⟦<F as Family<Posted<Control>>>⟧ in_order board.now pass.new }
     ensures process { pass.new.process ≡ pass.old.process }

@@ -56,7 +56,7 @@ fn start_limits<
 ) -> Result<PromisedHandle<Pass<Control, F>, Done<LimitsTask<F>>>, AllocError>
 where
     F::Seat: Send + 'static,
-    F::Told: Send + 'static,
+    F::Receipt: Send + 'static,
     requires { IsPass ⟦<F as Family<Posted<Control>>>⟧ in_order (arc_value shared.now).board pass }
     ensures board { IfOk result (λ h. (arc_value h.promise.task.value.shared).board ≡ (arc_value shared.now).board) }
     ensures pass { IfOk result (λ h. h.promise.task.value.pass ≡ pass) }
@@ -79,7 +79,7 @@ fn start_readings<
 ) -> Result<PromisedHandle<Pass<Control, F>, Done<ReadingsTask<F>>>, AllocError>
 where
     F::Seat: Send + 'static,
-    F::Told: Send + 'static,
+    F::Receipt: Send + 'static,
     requires { IsPass ⟦<F as Family<Posted<Control>>>⟧ in_order (arc_value shared.now).board pass }
     ensures board { IfOk result (λ h. (arc_value h.promise.task.value.shared).board ≡ (arc_value shared.now).board) }
     ensures pass { IfOk result (λ h. h.promise.task.value.pass ≡ pass) }
@@ -104,7 +104,7 @@ fn start_steering<
 ) -> Result<PromisedHandle<(Pass<Control, F>, M), Done<SteeringTask<F, M>>>, AllocError>
 where
     F::Seat: Send + 'static,
-    F::Told: Send + 'static,
+    F::Receipt: Send + 'static,
     requires { IsPass ⟦<F as Family<Posted<Control>>>⟧ in_order (arc_value shared.now).board pass }
     ensures board { IfOk result (λ h. (arc_value h.promise.task.value.shared).board ≡ (arc_value shared.now).board) }
     ensures pass { IfOk result (λ h. h.promise.task.value.pass ≡ pass) }
@@ -164,7 +164,7 @@ pub fn run<
 ) -> Result<Option<(Posted<Control>, M)>, AllocError>
 where
     F::Seat: Send + 'static,
-    F::Told: Send + 'static,
+    F::Receipt: Send + 'static,
     ensures { IfOk result (λ r. IfSome r (λ end. HasControlled ⟦<F as Family<Posted<Control>>>⟧ M.was_sent opening end.0 motor end.1)) }
 {
     let (board, limits, readings, steering) = deal::<F>(alloc, opening)?;

@@ -6,7 +6,7 @@ ghost use Rattle.example_control.specs.Turns.{in_order};
 
 use crate::calls::{publish, publish_and_tell, set_limits, steer_when_told};
 use crate::control::Control;
-use board_live::{Board, Pass, Posted, Receipt, TagsEnded};
+use board_live::{Board, Pass, Posted, Receipt, Refused};
 use cell_contract::Family;
 use matrix_core::Stamp;
 
@@ -21,7 +21,7 @@ pub const STEERING: usize = 2;
 fn set_limits_by<F: Family<Posted<Control>>>(
     board: &Board<Control, F>,
     passes: &mut Vec<Pass<Control, F>>,
-) -> Result<Stamp, TagsEnded<Control>>
+) -> Result<Stamp, Refused<Control>>
     requires all { AllPasses ⟦<F as Family<Posted<Control>>>⟧ in_order board.now passes.old.items }
     requires three { length passes.old.items ≡ 3 }
     ensures { AllPasses ⟦<F as Family<Posted<Control>>>⟧ in_order board.now passes.new.items × (length passes.new.items ≡ 3) }
@@ -33,7 +33,7 @@ fn set_limits_by<F: Family<Posted<Control>>>(
 fn publish_by<F: Family<Posted<Control>>>(
     board: &Board<Control, F>,
     passes: &mut Vec<Pass<Control, F>>,
-) -> Result<Receipt<Control, F>, TagsEnded<Control>>
+) -> Result<Receipt<Control, F>, Refused<Control>>
     requires all { AllPasses ⟦<F as Family<Posted<Control>>>⟧ in_order board.now passes.old.items }
     requires three { length passes.old.items ≡ 3 }
     ensures all { AllPasses ⟦<F as Family<Posted<Control>>>⟧ in_order board.now passes.new.items × (length passes.new.items ≡ 3) }
@@ -60,7 +60,7 @@ fn steer_by<F: Family<Posted<Control>>>(
 pub fn share<F: Family<Posted<Control>>>(
     board: &Board<Control, F>,
     passes: &mut Vec<Pass<Control, F>>,
-) -> Result<u64, TagsEnded<Control>>
+) -> Result<u64, Refused<Control>>
     requires all { AllPasses ⟦<F as Family<Posted<Control>>>⟧ in_order board.now passes.old.items }
     requires three { length passes.old.items ≡ 3 }
     ensures { IfOk result (λ _. AllPasses ⟦<F as Family<Posted<Control>>>⟧ in_order board.now passes.new.items

@@ -10,11 +10,11 @@ use Rattle.cell_contract.specs.declared.times.Known.{Known}
 use Rattle.cell_contract.specs.declared.sight.Sight.TheVariants.{Spent, Told as Tells}
 use Rattle.cell_four_slot.specs.Steps.{FourSlotSight}
 use Rattle.cell_contract.specs.Accesses.{WriteAccesses, ReadAccesses}
-use Rattle.cell_contract.specs.Plans.{AreSoFar, Doings, doings}
+use Rattle.cell_contract.specs.Plans.{AreSoFar, Doings}
 use Rattle.family_four_slot.specs.declared.family.FourSlotFamily.{FourSlotFamily}
 use Rattle.family_four_slot.specs.declared.family.Stored.{Stored}
 use Rattle.family_table.specs.declared.processes.ProcessSeat.{ProcessSeat}
-use Rattle.family_table.specs.declared.processes.ProcessTold.{ProcessTold}
+use Rattle.family_table.specs.declared.processes.ProcessReceipt.{ProcessReceipt}
 use Rattle.family_table.specs.Seated.{known_by, times_of, told_in}
 use Rattle.family_table.specs.declared.notes.View.TheVariants.{Told, Has}
 use Rattle.family_table.specs.Family.{of_cell}
@@ -32,8 +32,8 @@ module _ (T : Type 0) where
   abbrev pub FourSlotSeat : Type 0
   FourSlotSeat = ProcessSeat T (FourSlotSight T) Stored
 
-  abbrev pub FourSlotTold : Type 0
-  FourSlotTold = ProcessTold T (FourSlotSight T)
+  abbrev pub FourSlotReceipt : Type 0
+  FourSlotReceipt = ProcessReceipt T (FourSlotSight T)
 
 module _ {T : Type 0} where
   abbrev pub opening_of : FourSlotFamily T → T
@@ -63,20 +63,20 @@ module _ {T : Type 0} where
   -- what all processes have done so far, shown by a seat
   abbrev pub SeatShowsAll : (T → ℕ → ℕ → ℕ → ℕ → Doings T → Type 0) → FourSlotFamily T → FourSlotSeat T → Type 0
   SeatShowsAll plan f s = AreSoFar (plan (opening_of f) 3 (processes_of f) (limit_of f)) (opening_of f) (processes_of f) s.who
-      (doings (times_of s) (writes_of s) (reads_of s))
+      (times_of s) (writes_of s) (reads_of s)
 
   -- the record that a receipt names to process j, and all that was written to that one up to then
-  abbrev pub naming : FourSlotTold T → ℕ → Dated T
+  abbrev pub naming : FourSlotReceipt T → ℕ → Dated T
   naming t j = receipt_or (dated t.spare) (of_cell Spent (place t.processes t.from j) (told_in t).parts)
 
-  abbrev pub named_by : FourSlotTold T → ℕ → T
+  abbrev pub named_by : FourSlotReceipt T → ℕ → T
   named_by t j = (naming t j).item
 
-  abbrev pub carried_by : FourSlotTold T → ℕ → Known T
+  abbrev pub carried_by : FourSlotReceipt T → ℕ → Known T
   carried_by t j = (naming t j).writes
 
   -- the receipt is of a process of the family, and tells each other one of its cell alone
-  pub record IsTold (f : FourSlotFamily T) (t : FourSlotTold T) : Type 0 where
+  pub record IsReceipt (f : FourSlotFamily T) (t : FourSlotReceipt T) : Type 0 where
     pub table : t.seat.inner.table_id ≡ f.table.rows.inner.shared.table_id
     pub processes : t.processes ≡ processes_of f
     pub inside : t.from < t.processes

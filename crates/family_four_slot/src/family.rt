@@ -16,14 +16,14 @@ ghost use Rattle.cell_four_slot.specs.Steps.{FourSlotSight};
 ghost use Rattle.family_table.specs.Seated.{number_of, clock_of, times_of};
 ghost use Rattle.family_four_slot.specs.Seated.{opening_of, processes_of, limit_of, writes_of, reads_of, IsSeat, SeatShowsAll};
 ghost use Rattle.family_table.specs.Seated.{sender_of, time_of};
-ghost use Rattle.family_four_slot.specs.Seated.{named_by, carried_by, IsTold, three_are_few, three_steps};
+ghost use Rattle.family_four_slot.specs.Seated.{named_by, carried_by, IsReceipt, three_are_few, three_steps};
 
 use crate::table::{FamilySeat, FamilyTable};
 use cell_contract::{Family, Kept, Planned, Sees, SharedFamily, SoFar};
 use cell_four_slot::{FourSlotSight, bit_of, other_bit, set_bit, slot_of};
 use family_table::left::EndsWithSome;
 use family_table::place;
-use family_table::processes::{ProcessSeat, ProcessTold, gathered, show};
+use family_table::processes::{ProcessReceipt, ProcessSeat, gathered, show};
 use std::alloc::{AllocError, Global};
 use std::marker::Brand;
 use std::snapshot::Snapshot;
@@ -55,7 +55,7 @@ pub struct Stored {
 pub type FourSlotSeat<T> = ProcessSeat<T, FourSlotSight<T>, Stored>;
 
 /// A receipt of a process for all that it has written.
-pub type FourSlotTold<T> = ProcessTold<T, FourSlotSight<T>>;
+pub type FourSlotReceipt<T> = ProcessReceipt<T, FourSlotSight<T>>;
 
 /// A seat for each process, of the one that has them all.
 fn seats_of<T: Planned>(
@@ -148,7 +148,7 @@ impl<T: Planned> FourSlotFamily<T> {
 impl<T: Planned> Family<T> for FourSlotFamily<T> {
     type Seat = FourSlotSeat<T>;
 
-    type Told = FourSlotTold<T>;
+    type Receipt = FourSlotReceipt<T>;
 
     ghost opening = { opening_of };
 
@@ -164,7 +164,7 @@ impl<T: Planned> Family<T> for FourSlotFamily<T> {
 
     ghost is_seat = { IsSeat };
 
-    ghost is_told = { IsTold };
+    ghost is_receipt = { IsReceipt };
 
     ghost who = { number_of };
 
@@ -229,9 +229,9 @@ impl<T: Planned> Family<T> for FourSlotFamily<T> {
         }
     }
 
-    fn tell(&self, seat: &mut FourSlotSeat<T>) -> FourSlotTold<T> {
+    fn tell(&self, seat: &mut FourSlotSeat<T>) -> FourSlotReceipt<T> {
         let told = self.table.rows.tell(&mut seat.seat);
-        ProcessTold {
+        ProcessReceipt {
             seat: told,
             processes: seat.processes,
             from: seat.who,
@@ -239,9 +239,9 @@ impl<T: Planned> Family<T> for FourSlotFamily<T> {
         }
     }
 
-    fn duplicate(&self, told: &mut FourSlotTold<T>) -> FourSlotTold<T> {
+    fn duplicate(&self, told: &mut FourSlotReceipt<T>) -> FourSlotReceipt<T> {
         let again = self.table.rows.duplicate(&mut told.seat);
-        ProcessTold {
+        ProcessReceipt {
             seat: again,
             processes: told.processes,
             from: told.from,
@@ -249,8 +249,8 @@ impl<T: Planned> Family<T> for FourSlotFamily<T> {
         }
     }
 
-    fn learn(&self, seat: &mut FourSlotSeat<T>, told: FourSlotTold<T>) {
-        let ProcessTold {
+    fn learn(&self, seat: &mut FourSlotSeat<T>, told: FourSlotReceipt<T>) {
+        let ProcessReceipt {
             seat: receipt,
             processes: _,
             from: _,

@@ -16,4 +16,4 @@ pub mod notes;
 mod plays;
 mod table;
 
-pub use family::{FourSlotFamily, FourSlotSeat, FourSlotTold};
+pub use family::{FourSlotFamily, FourSlotReceipt, FourSlotSeat};

@@ -7,8 +7,7 @@ use Rattle.cell_contract.specs.Plans.{AreSoFar, Doings, doings}
 -- known of it, and its answers have the numbers that are known
 pub record AreSoFarWith {T S : Type 0} (plan : ℕ → Doings T → Type 0) (opening : T) (n : ℕ) (who : S → ℕ) (times : S → List ℕ)
     (writes : S → ℕ → WriteAccesses T) (reads : S → ℕ → ReadAccesses T) (seats : List S) : Type 0 where
-  pub one : ℕ
-  pub own : Doings T
-  pub all : AreSoFar plan opening n one own
+  pub one : S
+  pub all : AreSoFar plan opening n (who one) (times one) (writes one) (reads one)
   pub each : (x : ℕ) (s : S) → slice_get seats x ≡ Some s → all.done (who s) ≡ doings (times s) (writes s) (reads s)
   pub numbers : (x i : ℕ) (s : S) → slice_get seats x ≡ Some s → all.numbers i (who s) ≡ (reads s i).numbers

@@ -6,7 +6,7 @@ use Rattle.family_table.specs.declared.notes.Process.{Process}
 use Rattle.family_table.specs.declared.notes.Receipt.{Receipt}
 use Rattle.family_table.specs.declared.notes.View.TheVariants.{Has}
 use Rattle.family_table.specs.declared.processes.ProcessSeat.{ProcessSeat}
-use Rattle.family_table.specs.declared.processes.ProcessTold.{ProcessTold}
+use Rattle.family_table.specs.declared.processes.ProcessReceipt.{ProcessReceipt}
 use Rattle.family_table.specs.declared.table.FamilySeat.{FamilySeat}
 use Rattle.family_table.specs.Views.{process_of, receipt_in}
 
@@ -43,11 +43,11 @@ module _ {T V X : Type 0} where
 
 module _ {T V : Type 0} where
   -- what a receipt tells
-  abbrev pub told_in : ProcessTold T V → Receipt V
+  abbrev pub told_in : ProcessReceipt T V → Receipt V
   told_in t = receipt_in t.seat.inner.me.0
 
-  abbrev pub sender_of : ProcessTold T V → ℕ
+  abbrev pub sender_of : ProcessReceipt T V → ℕ
   sender_of t = t.from
 
-  abbrev pub time_of : ProcessTold T V → ℕ
+  abbrev pub time_of : ProcessReceipt T V → ℕ
   time_of t = (told_in t).clock

@@ -22,7 +22,7 @@ pub struct ProcessSeat<T: Copy, V, X: Copy> {
 
 /// A receipt of a process for all that it has written.
 #[derive(Drop)]
-pub struct ProcessTold<T: Copy, V> {
+pub struct ProcessReceipt<T: Copy, V> {
     pub seat: FamilySeat<T, V>,
     pub processes: usize,
     pub from: usize,

@@ -51,8 +51,10 @@ module _ {T : Type 0} (plan : T → ℕ → ℕ → ℕ → ℕ → Doings T →
       subst (λ (z : WriteAccesses T × ReadAccesses T). IsRegular o z.0.items (intervals z.0.times.begins z.0.times.ends)
       z.1.answers z.1.numbers (intervals z.1.times.begins z.1.times.ends)) (λ x. (sym w x, sym g x)) done.atomic.regular
 
-  abbrev are_so_far : (who : ℕ) (own : Doings T) → done_by o n (at who) ≡ own → AreSoFar (plan o 1 n limit) o n who own
-  are_so_far who own known = record {
+  abbrev are_so_far : (who : ℕ) (times : List ℕ) (writes : ℕ → WriteAccesses T) (reads : ℕ → ReadAccesses T) →
+      done_by o n (at who) ≡ doings times writes reads → ((i : ℕ) → (reads_from o n (at who) i).numbers ≡ (reads i).numbers) →
+      AreSoFar (plan o 1 n limit) o n who times writes reads
+  are_so_far who times writes reads known numbered = record {
     steps = all.steps;
     done = λ i. done_by o n (at i);
     schedule = all.within;
@@ -60,6 +62,7 @@ module _ {T : Type 0} (plan : T → ℕ → ℕ → ℕ → ℕ → Doings T →
     planned = λ i l. (all.planned i (at i) (there i l)).1;
     known = known;
     numbers = λ i j. (reads_from o n (at j) i).numbers;
+    numbered = numbered;
     registers = registers;
   }
 
@@ -83,9 +86,9 @@ module _ {T : Type 0} (plan : T → ℕ → ℕ → ℕ → ℕ → Doings T →
     (all : AllSoFar Spent (triples (processes_of f)) (Done (opening_of f)) (plan_of plan f.table.rows.inner.shared.key)
     (processes_of f) (known_by s ∷ [])) where
   pub seat_so_far : AreSoFar (plan (opening_of f) 1 (processes_of f) (limit_of f)) (opening_of f) (processes_of f) (number_of s)
-      (doings (times_of s) (writes_of s) (reads_of s))
-  seat_so_far = are_so_far plan (opening_of f) (processes_of f) (limit_of f) (known_by s ∷ []) all (number_of s)
-      (doings (times_of s) (writes_of s) (reads_of s)) (known_of plan f (known_by s ∷ []) all s own 0 refl)
+      (times_of s) (writes_of s) (reads_of s)
+  seat_so_far = are_so_far plan (opening_of f) (processes_of f) (limit_of f) (known_by s ∷ []) all (number_of s) (times_of s) (writes_of s)
+      (reads_of s) (known_of plan f (known_by s ∷ []) all s own 0 refl) (numbers_of plan f (known_by s ∷ []) all s own 0 refl)
 
 -- several seats are shown together, of which there is one
 module _ {T : Type 0} (plan : T → ℕ → ℕ → ℕ → ℕ → Doings T → Type 0) (f : TripleFamily T) (seats : List (TripleSeat T))
@@ -99,10 +102,9 @@ module _ {T : Type 0} (plan : T → ℕ → ℕ → ℕ → ℕ → Doings T →
       let s : TripleSeat T = first.0 in
       let of = among 0 s first.1 in
       record {
-        one = number_of s;
-        own = doings (times_of s) (writes_of s) (reads_of s);
-        all = are_so_far plan (opening_of f) (processes_of f) (limit_of f) ps all (number_of s)
-            (doings (times_of s) (writes_of s) (reads_of s)) (known_of plan f ps all s (own 0 s first.1) of.0 of.1);
+        one = s;
+        all = are_so_far plan (opening_of f) (processes_of f) (limit_of f) ps all (number_of s) (times_of s) (writes_of s) (reads_of s)
+            (known_of plan f ps all s (own 0 s first.1) of.0 of.1) (numbers_of plan f ps all s (own 0 s first.1) of.0 of.1);
         each = λ x t e. let b = among x t e in known_of plan f ps all t (own x t e) b.0 b.1;
         numbers = λ x i t e. let b = among x t e in numbers_of plan f ps all t (own x t e) b.0 b.1 i;
       }

@@ -14,22 +14,22 @@ use Rattle.family_table.specs.Places.{place, writer_of}
 use Rattle.family_table.specs.Views.{receipt_in}
 use Rattle.family_triple.specs.declared.family.TripleFamily.{TripleFamily}
 use Rattle.family_triple.specs.Seated.{TripleSeat}
-use Rattle.family_triple.specs.Seated.{TripleTold}
+use Rattle.family_triple.specs.Seated.{TripleReceipt}
 use Rattle.family_table.specs.declared.table.FamilySeat.{FamilySeat}
 use Rattle.family_table.specs.Seated.{known_by, told_in, number_of}
-use Rattle.family_triple.specs.Seated.{carried_by, processes_of, writes_of, IsSeat, IsTold}
+use Rattle.family_triple.specs.Seated.{carried_by, processes_of, writes_of, IsSeat, IsReceipt}
 use Rattle.family_table.proofs.Receipts.{receipt_cell}
 use Rattle.family_triple.proofs.Calls.{sees_writes}
 use Rattle.family_triple.specs.Cells.{deaf, mute}
 
 module _ {T : Type 0} (f : TripleFamily T) (s : TripleSeat T) (own : IsSeat f s) where
-  part : (t : TripleTold T) → t.seat.inner.me ≡ (Told (receipt_of receipt_for (known_by s)), []) → (k : ℕ) →
+  part : (t : TripleReceipt T) → t.seat.inner.me ≡ (Told (receipt_of receipt_for (known_by s)), []) → (k : ℕ) →
       of_cell Spent k (told_in t).parts ≡ receipt_for (of_cell Spent k (known_by s).parts)
   part t me k = ap (λ z. of_cell Spent k (receipt_in z.0).parts) me
       ∙ receipt_cell Spent receipt_for hears_of refl deaf mute k (known_by s).parts
 
-  pub has_told : (t : TripleTold T) → t.seat.inner.table_id ≡ f.table.rows.inner.shared.table_id → t.processes ≡ s.processes →
-      t.from ≡ s.who → t.seat.inner.me ≡ (Told (receipt_of receipt_for (known_by s)), []) → IsTold f t
+  pub has_told : (t : TripleReceipt T) → t.seat.inner.table_id ≡ f.table.rows.inner.shared.table_id → t.processes ≡ s.processes →
+      t.from ≡ s.who → t.seat.inner.me ≡ (Told (receipt_of receipt_for (known_by s)), []) → IsReceipt f t
   has_told t table many who me = record {
     table = table;
     processes = many ∙ own.processes;
@@ -45,7 +45,7 @@ module _ {T : Type 0} (f : TripleFamily T) (s : TripleSeat T) (own : IsSeat f s)
   }
 
   -- it carries all that the process wrote to each other one
-  pub tells_all : (t : TripleTold T) → t.processes ≡ s.processes → t.from ≡ s.who →
+  pub tells_all : (t : TripleReceipt T) → t.processes ≡ s.processes → t.from ≡ s.who →
       t.seat.inner.me ≡ (Told (receipt_of receipt_for (known_by s)), []) → (j : ℕ) → j < processes_of f → j ≢ number_of s →
       carried_by t j ≡ known_as (writes_of s j).items (writes_of s j).times
   tells_all t many who me j lj ne =
@@ -58,8 +58,8 @@ module _ {T : Type 0} (f : TripleFamily T) (s : TripleSeat T) (own : IsSeat f s)
       (sees_writes s.spare s.processes (known_by s) j row.notes away row.is))
 
 -- a receipt with another token that knows the same
-pub told_again : {T : Type 0} (f : TripleFamily T) (t : TripleTold T) → IsTold f t → (inner : FamilySeat T (TripleSight T)) →
-    inner.inner.table_id ≡ t.seat.inner.table_id → inner.inner.me ≡ t.seat.inner.me → IsTold f (record t { seat = inner })
+pub told_again : {T : Type 0} (f : TripleFamily T) (t : TripleReceipt T) → IsReceipt f t → (inner : FamilySeat T (TripleSight T)) →
+    inner.inner.table_id ≡ t.seat.inner.table_id → inner.inner.me ≡ t.seat.inner.me → IsReceipt f (record t { seat = inner })
 told_again {T} f t is inner table me =
     let rest = subst (λ (m : Me T (View (TripleSight T))). (m ≡ (Told (receipt_in m.0), []))
     × ((j : ℕ) → j < t.processes → j ≢ t.from → of_cell Spent (place t.processes t.from j) (receipt_in m.0).parts
@@ -68,7 +68,7 @@ told_again {T} f t is inner table me =
     (is.one, is.row, is.elsewhere) in
     record { table = table ∙ is.table; processes = is.processes; inside = is.inside; one = rest.0; row = rest.1; elsewhere = rest.2 }
 
-pub same_told : {T : Type 0} (t : TripleTold T) (inner : FamilySeat T (TripleSight T)) → inner.inner.table_id ≡ t.seat.inner.table_id →
+pub same_told : {T : Type 0} (t : TripleReceipt T) (inner : FamilySeat T (TripleSight T)) → inner.inner.table_id ≡ t.seat.inner.table_id →
     inner.inner.id ≡ t.seat.inner.id → inner.inner.me ≡ t.seat.inner.me → record t { seat = inner } ≡ t
 same_told t inner table id me =
     λ i. record t { seat = record inner { inner = record inner.inner { table_id = table i; id = id i; me = me i } } }

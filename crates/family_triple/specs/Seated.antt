@@ -16,8 +16,8 @@ use Rattle.family_table.specs.Places.{place, writer_of}
 use Rattle.family_triple.specs.declared.family.TripleFamily.{TripleFamily}
 use Rattle.family_triple.specs.declared.family.Slots.{Slots}
 use Rattle.family_table.specs.declared.processes.ProcessSeat.{ProcessSeat}
-use Rattle.family_table.specs.declared.processes.ProcessTold.{ProcessTold}
-use Rattle.cell_contract.specs.Plans.{AreSoFar, Doings, doings}
+use Rattle.family_table.specs.declared.processes.ProcessReceipt.{ProcessReceipt}
+use Rattle.cell_contract.specs.Plans.{AreSoFar, Doings}
 use Rattle.family_table.specs.Seated.{known_by, times_of, told_in}
 use Rattle.family_triple.specs.Words.{writes_to, reads_from, IsAtRest}
 
@@ -31,8 +31,8 @@ module _ (T : Type 0) where
   abbrev pub TripleSeat : Type 0
   TripleSeat = ProcessSeat T (TripleSight T) Slots
 
-  abbrev pub TripleTold : Type 0
-  TripleTold = ProcessTold T (TripleSight T)
+  abbrev pub TripleReceipt : Type 0
+  TripleReceipt = ProcessReceipt T (TripleSight T)
 
 module _ {T : Type 0} where
   abbrev pub opening_of : TripleFamily T → T
@@ -62,20 +62,20 @@ module _ {T : Type 0} where
   -- what all processes have done so far, shown by a seat
   abbrev pub SeatShowsAll : (T → ℕ → ℕ → ℕ → ℕ → Doings T → Type 0) → TripleFamily T → TripleSeat T → Type 0
   SeatShowsAll plan f s = AreSoFar (plan (opening_of f) 1 (processes_of f) (limit_of f)) (opening_of f)
-      (processes_of f) s.who (doings (times_of s) (writes_of s) (reads_of s))
+      (processes_of f) s.who (times_of s) (writes_of s) (reads_of s)
 
   -- the record that a receipt names to process j, and all that was written to that one up to then
-  abbrev pub naming : TripleTold T → ℕ → Dated T
+  abbrev pub naming : TripleReceipt T → ℕ → Dated T
   naming t j = receipt_or (dated t.spare) (of_cell Spent (place t.processes t.from j) (told_in t).parts)
 
-  abbrev pub named_by : TripleTold T → ℕ → T
+  abbrev pub named_by : TripleReceipt T → ℕ → T
   named_by t j = (naming t j).item
 
-  abbrev pub carried_by : TripleTold T → ℕ → Known T
+  abbrev pub carried_by : TripleReceipt T → ℕ → Known T
   carried_by t j = (naming t j).writes
 
   -- the receipt is of a process of the family, and tells each other one of its cell alone
-  pub record IsTold (f : TripleFamily T) (t : TripleTold T) : Type 0 where
+  pub record IsReceipt (f : TripleFamily T) (t : TripleReceipt T) : Type 0 where
     pub table : t.seat.inner.table_id ≡ f.table.rows.inner.shared.table_id
     pub processes : t.processes ≡ processes_of f
     pub inside : t.from < t.processes

@@ -16,7 +16,7 @@ ghost use Rattle.family_table.specs.Seated.{number_of, clock_of, times_of};
 ghost use Rattle.family_triple.specs.Seated.{opening_of, processes_of, limit_of, writes_of, reads_of};
 ghost use Rattle.family_triple.specs.Seated.{IsSeat, SeatShowsAll};
 ghost use Rattle.family_table.specs.Seated.{sender_of, time_of};
-ghost use Rattle.family_triple.specs.Seated.{named_by, carried_by, IsTold, one_is_few, one_step};
+ghost use Rattle.family_triple.specs.Seated.{named_by, carried_by, IsReceipt, one_is_few, one_step};
 
 use crate::slots::{among, newest, take_slots, turn_by};
 use crate::table::{FamilySeat, FamilyTable, slot_place};
@@ -24,7 +24,7 @@ use cell_contract::{Family, Kept, Planned, Sees, SharedFamily, SoFar};
 use cell_triple::TripleSight;
 use family_table::left::EndsWithSome;
 use family_table::place;
-use family_table::processes::{ProcessSeat, ProcessTold, gathered, show};
+use family_table::processes::{ProcessReceipt, ProcessSeat, gathered, show};
 use std::alloc::{AllocError, Global};
 use std::marker::Brand;
 
@@ -46,7 +46,7 @@ pub struct Slots {
 pub type TripleSeat<T> = ProcessSeat<T, TripleSight<T>, Slots>;
 
 /// A receipt of a process for all that it has written.
-pub type TripleTold<T> = ProcessTold<T, TripleSight<T>>;
+pub type TripleReceipt<T> = ProcessReceipt<T, TripleSight<T>>;
 
 /// A seat for each process, of the one that has them all.
 fn seats_of<T: Planned>(
@@ -112,7 +112,7 @@ impl<T: Planned> TripleFamily<T> {
 impl<T: Planned> Family<T> for TripleFamily<T> {
     type Seat = TripleSeat<T>;
 
-    type Told = TripleTold<T>;
+    type Receipt = TripleReceipt<T>;
 
     ghost opening = { opening_of };
 
@@ -128,7 +128,7 @@ impl<T: Planned> Family<T> for TripleFamily<T> {
 
     ghost is_seat = { IsSeat };
 
-    ghost is_told = { IsTold };
+    ghost is_receipt = { IsReceipt };
 
     ghost who = { number_of };
 
@@ -204,9 +204,9 @@ impl<T: Planned> Family<T> for TripleFamily<T> {
         }
     }
 
-    fn tell(&self, seat: &mut TripleSeat<T>) -> TripleTold<T> {
+    fn tell(&self, seat: &mut TripleSeat<T>) -> TripleReceipt<T> {
         let told = self.table.rows.tell(&mut seat.seat);
-        ProcessTold {
+        ProcessReceipt {
             seat: told,
             processes: seat.processes,
             from: seat.who,
@@ -214,9 +214,9 @@ impl<T: Planned> Family<T> for TripleFamily<T> {
         }
     }
 
-    fn duplicate(&self, told: &mut TripleTold<T>) -> TripleTold<T> {
+    fn duplicate(&self, told: &mut TripleReceipt<T>) -> TripleReceipt<T> {
         let again = self.table.rows.duplicate(&mut told.seat);
-        ProcessTold {
+        ProcessReceipt {
             seat: again,
             processes: told.processes,
             from: told.from,
@@ -224,8 +224,8 @@ impl<T: Planned> Family<T> for TripleFamily<T> {
         }
     }
 
-    fn learn(&self, seat: &mut TripleSeat<T>, told: TripleTold<T>) {
-        let ProcessTold {
+    fn learn(&self, seat: &mut TripleSeat<T>, told: TripleReceipt<T>) {
+        let ProcessReceipt {
             seat: receipt,
             processes: _,
             from: _,

@@ -13,4 +13,4 @@ mod plays;
 mod slots;
 mod table;
 
-pub use family::{TripleFamily, TripleSeat, TripleTold};
+pub use family::{TripleFamily, TripleReceipt, TripleSeat};

@@ -25,11 +25,12 @@ IsListed writer op = IsSome op.ends ⊎ ((op.kind ≡ Write) × IsStoredWrite wr
 abbrev pub ComesFirst : {R : Type 0} → Op R → Op R → Type 0
 ComesFirst a b = (b.kind ≡ Read) × ((a.kind ≡ Write) ⊎ ((a.kind ≡ Read) × (a.starts < b.starts)))
 
--- the order: the finished reads of the opening by beginning, then for each write in turn the write and the finished reads
--- with it as source, by beginning
+-- the order: the finished reads of the opening by beginning, then for each write in turn the write and the finished
+-- reads with it as source, by beginning
 pub record IsReportOrder {R : Type 0} (writer reader : Accesses) (ops : List (Op R)) (order : List ℕ) : Type 0 where
   pub places : ListsPlaces ops order
   pub listed : (p : ℕ) (op : Op R) → slice_get ops p ≡ Some op → IsListed writer op → times_of p order ≡ 1
   pub left_out : (p : ℕ) (op : Op R) → slice_get ops p ≡ Some op → ¬ IsListed writer op → times_of p order ≡ 0
   pub sorted : (i j p q m n : ℕ) (a b : Op R) → StandsAt ops order i p a → StandsAt ops order j q b → i < j →
-      HasNumber writer reader a.kind a.starts m → HasNumber writer reader b.kind b.starts n → (m < n) ⊎ ((m ≡ n) × ComesFirst a b)
+      HasNumber writer reader a.kind a.starts m → HasNumber writer reader b.kind b.starts n → (m < n) ⊎
+      ((m ≡ n) × ComesFirst a b)

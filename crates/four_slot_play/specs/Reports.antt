@@ -1,6 +1,7 @@
--- The report of a cell as accesses, positions being the schedule's and slots the report's; and what it has of the run (this
--- project's own).
-use Rattle.std.specs.Prelude.{◌≡◌, ◌≢◌, ℕ, List, [], ◌∷◌, length, slice_get, Option, None, Some, IsSome, nat_eq, if◌then◌else◌}
+-- The report of a cell as accesses, positions being the schedule's and slots the report's; and what it has of the run
+-- (this project's own).
+use Rattle.std.specs.Prelude.{◌≡◌, ◌≢◌, ℕ, List, [], ◌∷◌, length, slice_get, Option, None, Some, IsSome, nat_eq}
+use Rattle.std.specs.Prelude.{if◌then◌else◌}
 use Rattle.std.specs.Option.{option_and_then}
 use Rattle.history_core.specs.declared.history.Op.{Op}
 use Rattle.history_core.specs.declared.history.Kind.TheVariants.{Refused}
@@ -30,12 +31,14 @@ abbrev pub reader_of : {R : Type 0} → Span R → List (Op R) → List (Option 
 reader_of span ops slots = accesses_of span ops slots 1
 
 -- the slots and the answers are the run's, and no operation of a cell is refused
-pub record IsOfRun {R : Type 0} (span : Span R) (run : Trace R) (ops : List (Op R)) (slots : List (Option ℕ)) : Type 0 where
+pub record IsOfRun {R : Type 0} (span : Span R) (run : Trace R) (ops : List (Op R))
+    (slots : List (Option ℕ)) : Type 0 where
   pub each_slot : length slots ≡ length ops
   pub write_slots : (k : ℕ) → (writer_of span ops slots).slot k ≡ slice_get run.write_slots k
   pub read_slots : (m : ℕ) → (reader_of span ops slots).slot m ≡ slice_get run.read_slots m
   pub unrefused : (p : ℕ) (op : Op R) → slice_get ops p ≡ Some op → op.kind ≢ Refused
-  pub answers : (p m : ℕ) (op : Op R) → slice_get ops p ≡ Some op → op.who ≡ 1 → access_at 0 span 1 m 0 ≡ Some op.starts →
+  pub answers : (p m : ℕ) (op : Op R) → slice_get ops p ≡ Some op → op.who ≡ 1 →
+      access_at 0 span 1 m 0 ≡ Some op.starts →
       op.item ≡ slice_get run.answers m
 
 -- fresh: each finished read is

@@ -1,5 +1,5 @@
-//! The player of cell schedules: which operations a schedule has is read off its steps, and what they saw off a cell that
-//! makes the steps' events.
+//! The player of cell schedules: which operations a schedule has is read off its steps, and what they saw off a cell
+//! that makes the steps' events.
 
 ghost use Rattle.std.specs.Prelude.{IfErr, IfOk};
 ghost use Rattle.four_slot_core.specs.Play.{IsRefusal};
@@ -18,8 +18,8 @@ mod report;
 mod run;
 mod steps;
 
-/// Plays a schedule of a cell, in time and memory proportional to its steps. A schedule with a step that no operation is left
-/// for is refused before any memory is taken, by the position of the first such step.
+/// Plays a schedule of a cell, in time and memory proportional to its steps. A schedule with a step that no operation
+/// is left for is refused before any memory is taken, by the position of the first such step.
 pub fn play_cell<R: Copy>(alloc: Global, s: &CellSchedule<R>) -> Result<CellReport<R>, PlayError>
     ensures report { IfOk result (IsCellReport s.now) }
     ensures refused { IfErr result (IsRefusal (cell_span s.now)) }

@@ -1,7 +1,9 @@
--- The matrix and its events. Cell (i, j) is written by process i and read by process j; an operation of process i reads cell
--- (j, i) for each other j, rising, chooses at the last one, and then writes cell (i, j) for each other j, rising. The idea of a
--- matrix with tags is credited to P. Vitányi and B. Awerbuch, FOCS 1986; the rules are this project's own.
-use Rattle.std.specs.Prelude.{◌≡◌, ℕ, ◌+◌, ◌-◌, ◌*◌, ◌≤◌, List, length, replicate, slice_get, slice_set, Option, None, Some, nat_lt, nat_eq}
+-- The matrix and its events. Cell (i, j) is written by process i and read by process j; an operation of process i reads
+-- cell (j, i) for each other j, rising, chooses at the last one, and then writes cell (i, j) for each other j, rising.
+-- The idea of a matrix with tags is credited to P. Vitányi and B. Awerbuch, FOCS 1986; the rules are this project's
+-- own.
+use Rattle.std.specs.Prelude.{◌≡◌, ℕ, ◌+◌, ◌-◌, ◌*◌, ◌≤◌, List, length, replicate, slice_get, slice_set, Option, None}
+use Rattle.std.specs.Prelude.{Some, nat_lt, nat_eq}
 use Rattle.std.specs.Prelude.{if◌then◌else◌}
 use Rattle.history_core.specs.declared.wish.Wish.{Wish}
 use Rattle.matrix_core.specs.declared.stamp.Stamped.{Stamped}
@@ -40,7 +42,8 @@ module _ {R : Type 0} where
   -- process i reads the next cell of its column
   abbrev pub reads_next : Matrix R → ℕ → Wish R → Progress R → Option (Stamped R) → Matrix R
   reads_next m i wish line None = m
-  reads_next m i wish line (Some answer) = record m { lines = slice_set m.lines i (after_read (size m) m.limit i wish line answer) }
+  reads_next m i wish line (Some answer) =
+      record m { lines = slice_set m.lines i (after_read (size m) m.limit i wish line answer) }
 
   -- process i writes its own record to the next cell of its row
   abbrev pub writes_next : Matrix R → ℕ → Progress R → Matrix R

@@ -1,5 +1,5 @@
--- The report of a schedule over matrices of atomic cells: what each of its terms gave, one after the other, and what is promised of
--- it. This is this project's own.
+-- The report of a schedule over matrices of atomic cells: what each of its terms gave, one after the other, and what is
+-- promised of it. This is this project's own.
 use Rattle.std.specs.Prelude.{◌≡◌, ℕ, ◌+◌, List, [], ◌∷◌, ◌++◌, length, Option, Some}
 use Rattle.history_core.specs.declared.history.Op.{Op}
 use Rattle.history_core.specs.Joined.{ops_of, order_from, Part, terms_from}
@@ -23,9 +23,9 @@ pub record MatrixPart (R : Type 0) : Type 0 where
   pub order : List ℕ
 
 module _ {R : Type 0} where
-  -- a term's part came about so, where the term begins at the position `at` and opens with this record: its operations are the
-  -- schedule's, `chosen i k` is what operation k of process i chose, in a run by accesses; the choices follow the law of choices, and
-  -- the order is by stamp
+  -- a term's part came about so, where the term begins at the position `at` and opens with this record: its operations
+  -- are the schedule's, `chosen i k` is what operation k of process i chose, in a run by accesses; the choices follow
+  -- the law of choices, and the order is by stamp
   pub record IsMatrixPart (at : ℕ) (opening : R) (term : MatrixTerm R) (part : MatrixPart R) : Type 0 where
     pub limit : part.limit ≡ term.limit
     pub played : IsPlayed at (span_of term) part.ops
@@ -42,7 +42,8 @@ module _ {R : Type 0} where
   AreMatrixParts at opening (term ∷ terms) [] = ⊥
   AreMatrixParts at opening (term ∷ terms) (part ∷ parts) =
       IsMatrixPart at opening term part
-      × ((next : R) × (latest opening part.ops part.order ≡ Some next) × AreMatrixParts (at + length term.steps) next terms parts)
+      × ((next : R) × (latest opening part.ops part.order ≡ Some next) ×
+      AreMatrixParts (at + length term.steps) next terms parts)
 
   -- the parts of the history
   abbrev pub parts_of : List (MatrixPart R) → List (Part R)

@@ -183,7 +183,7 @@ fn rounds<R: Threads + Sync, W: Shared + Drop, F: SharedFamily<Posted<Record<W>>
 ) -> Result<Option<Finding>, AllocError>
 where
     F::Seat: Send,
-    F::Told: Send,
+    F::Receipt: Send,
 {
     let mut found = None;
     for board in boards {
@@ -215,9 +215,9 @@ fn soak<
 where
     C::Put: Send,
     C::Get: Send,
-    C::Told: Send,
+    C::Receipt: Send,
     F::Seat: Send,
-    F::Told: Send,
+    F::Receipt: Send,
 {
     let start = Instant::now(rt)?;
     let mut pairs = Tally::none();

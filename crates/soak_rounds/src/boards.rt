@@ -152,7 +152,7 @@ pub fn round<R: Threads + Sync, W: Shared + Drop, F: SharedFamily<Posted<Record<
 ) -> Result<(Tally, Record<W>), AllocError>
 where
     F::Seat: Send,
-    F::Told: Send,
+    F::Receipt: Send,
     ensures { IfOk result (λ r. IsRound (λ x. W.listed x.words) ⟦<Record<W> as PartialEq>⟧.eq opening tasks from calls r.0) }
 {
     let Ok((board, passes)) = Board::<Record<W>, F>::new(alloc, tasks, MAX_LIMIT, opening) else {

@@ -160,7 +160,7 @@ pub fn rounds<R: Threads + Sync, W: Shared, C: Cell<Record<W>>>(
 where
     C::Put: Send,
     C::Get: Send,
-    C::Told: Send,
+    C::Receipt: Send,
     ensures { IfOk result (HasSoaked (λ (r : _). W.listed r.words) ⟦<C as Calls<Record<W>>>⟧ CALLS count) }
 {
     let (cell, put, get) = C::make(alloc, Record::of(0))?;

@@ -107,7 +107,7 @@ fn at_once<R: Threads + Sync, C: Cell<Count>>(
 where
     C::Put: Send,
     C::Get: Send,
-    C::Told: Send,
+    C::Receipt: Send,
     requires own { C.is_put cell.now writing.old.put × C.is_get cell.now reading.old.get }
     requires first { (last_or (C.opening cell.now) (C.written writing.old.put)).0 ≤ 1 }
     ensures { C.is_put cell.now writing.new.put × C.is_get cell.now reading.new.get }
@@ -133,7 +133,7 @@ fn in_two_threads<R: Threads + Sync, C: Cell<Count>>(
 where
     C::Put: Send,
     C::Get: Send,
-    C::Told: Send,
+    C::Receipt: Send,
 {
     let (cell, put, get) = C::make(alloc, Count(0))?;
     let mut writing: Writing<C> = Writing { put };
@@ -163,7 +163,7 @@ fn given<R: Threads + Sync, C: Cell<Count>>(rt: &R, alloc: Global) -> Result<Giv
 where
     C::Put: Send,
     C::Get: Send,
-    C::Told: Send,
+    C::Receipt: Send,
 {
     let alone = in_one_thread::<C>(alloc)?;
     let dropped = without_reader::<C>(alloc)?;

@@ -150,7 +150,7 @@ fn at_once<R: Threads + Wait + Sync, C: Cell<Three>>(
 where
     C::Put: Send,
     C::Get: Send,
-    C::Told: Send,
+    C::Receipt: Send,
     requires own { C.is_put cell.now writing.old.put × C.is_get cell.now reading.old.get }
     requires first { (last_or (C.opening cell.now) (C.written writing.old.put)).first ≡ 0 }
     ensures { C.is_put cell.now writing.new.put × C.is_get cell.now reading.new.get }
@@ -175,7 +175,7 @@ fn under_way<R: Threads + Wait + Sync, C: Cell<Three>>(
 where
     C::Put: Send,
     C::Get: Send,
-    C::Told: Send,
+    C::Receipt: Send,
 {
     let (cell, put, get) = C::make(alloc, Three::of(0))?;
     let mut writing: Writing<C> = Writing { put };

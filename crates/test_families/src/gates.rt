@@ -28,7 +28,7 @@ fn run<R: Threads + Sync, F: SharedFamily<Posted<Band>>, G: Gate + Sync>(
 ) -> Result<u64, AllocError>
 where
     F::Seat: Send,
-    F::Told: Send,
+    F::Receipt: Send,
 {
     let crew = run_plans::<R, F, G>(rt, alloc, 9, plans, gate)?;
     Ok(made(crew.lanes.as_slice()))
@@ -43,7 +43,7 @@ fn counted<R: Threads + Sync, F: SharedFamily<Posted<Band>>>(
 ) -> Result<(u64, u64), AllocError>
 where
     F::Seat: Send,
-    F::Told: Send,
+    F::Receipt: Send,
 {
     let gate = CountingGate::new();
     let calls = run::<R, F, CountingGate>(rt, alloc, FIVE, &gate)?;
@@ -136,7 +136,7 @@ fn held_in<R: Threads + Sync, F: SharedFamily<Posted<Band>>>(
 ) -> Result<(u64, u64, bool), AllocError>
 where
     F::Seat: Send,
-    F::Told: Send,
+    F::Receipt: Send,
 {
     let gate = Held::new();
     run::<R, F, Held>(rt, alloc, plans, &gate)?;
@@ -154,7 +154,7 @@ fn is_up<R: Threads + Sync, F: SharedFamily<Posted<Band>>>(
 ) -> Result<bool, AllocError>
 where
     F::Seat: Send,
-    F::Told: Send,
+    F::Receipt: Send,
 {
     let gate = TimedGate::new(turns);
     Ok(run::<R, F, TimedGate>(rt, alloc, EIGHTY, &gate)? == turns.min(80))
@@ -166,7 +166,7 @@ fn time_is_up<R: Threads + Sync, F: SharedFamily<Posted<Band>>>(
 ) -> Result<bool, AllocError>
 where
     F::Seat: Send,
-    F::Told: Send,
+    F::Receipt: Send,
 {
     for turns in [0, 1, 50, 80, 90] {
         if !is_up::<R, F>(rt, alloc, turns)? {
@@ -232,7 +232,7 @@ fn sums<R: Threads + Sync, F: SharedFamily<Posted<Band>>>(
 ) -> Result<(u64, u64), AllocError>
 where
     F::Seat: Send,
-    F::Told: Send,
+    F::Receipt: Send,
 {
     let gate = Numbers {
         asked: AtomicU64::new(0),
@@ -250,7 +250,7 @@ pub fn wrong_gate<R: Threads + Sync, F: SharedFamily<Posted<Band>>>(
 ) -> Result<Option<&'static str>, AllocError>
 where
     F::Seat: Send,
-    F::Told: Send,
+    F::Receipt: Send,
 {
     if counted::<R, F>(rt, alloc)? != (5, 5) {
         return Ok(Some("calls are counted"));

@@ -57,7 +57,7 @@ pub fn write_to_limit<R: Threads + Sync, F: SharedFamily<Posted<Band>>>(
 ) -> Result<bool, AllocError>
 where
     F::Seat: Send,
-    F::Told: Send,
+    F::Receipt: Send,
 {
     let crew = run_plans::<R, F, OpenGate>(rt, alloc, 1, TO_LIMIT, &OpenGate)?;
     Ok(are_at_limit(crew.lanes.as_slice()))
@@ -112,7 +112,7 @@ pub fn passes_know<R: Threads + Sync, F: SharedFamily<Posted<Band>>>(
 ) -> Result<bool, AllocError>
 where
     F::Seat: Send,
-    F::Told: Send,
+    F::Receipt: Send,
 {
     let crew = run_plans::<R, F, StopsSecond>(rt, alloc, 9, STOPPED, &StopsSecond)?;
     let passes = into_passes(alloc, crew.lanes)?;

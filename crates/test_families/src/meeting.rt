@@ -74,7 +74,7 @@ fn meet<R: Threads + Sync, F: SharedFamily<Posted<Band>>>(
 ) -> Result<(Vec<Vec<Entry<Band>>>, Posted<Band>), AllocError>
 where
     F::Seat: Send,
-    F::Told: Send,
+    F::Receipt: Send,
     ensures ordered { IfOk result (λ r. (opening : Band) × (limit : ℕ) × LogsInOrder opening limit (map (λ v. v.items) r.0.items) r.1) }
 {
     let gate = Meeting {
@@ -100,7 +100,7 @@ fn met<R: Threads + Sync, F: SharedFamily<Posted<Band>>>(
 ) -> Result<bool, AllocError>
 where
     F::Seat: Send,
-    F::Told: Send,
+    F::Receipt: Send,
 {
     let (logs, last) = meet::<R, F>(rt, alloc, tasks)?;
     let mut whole = logs.len() == tasks;
@@ -122,7 +122,7 @@ pub fn all_met<R: Threads + Sync, F: SharedFamily<Posted<Band>>>(
 ) -> Result<bool, AllocError>
 where
     F::Seat: Send,
-    F::Told: Send,
+    F::Receipt: Send,
 {
     for tasks in 2..=16 {
         if !met::<R, F>(rt, alloc, tasks)? {

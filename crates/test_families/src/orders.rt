@@ -46,7 +46,7 @@ pub fn wears_out<R: Threads + Sync, F: SharedFamily<Posted<Band>>>(
 ) -> Result<bool, AllocError>
 where
     F::Seat: Send,
-    F::Told: Send,
+    F::Receipt: Send,
 {
     let plan = plan(alloc)?;
     let plans: &[&[u64]] = &[plan.as_slice(), plan.as_slice(), plan.as_slice()];
@@ -75,7 +75,7 @@ fn left_by_two<R: Threads + Sync, F: SharedFamily<Posted<Band>>>(
 ) -> Result<Left, AllocError>
 where
     F::Seat: Send,
-    F::Told: Send,
+    F::Receipt: Send,
 {
     let crew = run_plans::<R, F, OpenGate>(rt, alloc, limit, plans, &OpenGate)?;
     let (logs, last) = finish_lanes(alloc, crew.board, crew.lanes)?;
@@ -96,7 +96,7 @@ pub fn two_write_and_read<R: Threads + Sync, F: SharedFamily<Posted<Band>>>(
 ) -> Result<bool, AllocError>
 where
     F::Seat: Send,
-    F::Told: Send,
+    F::Receipt: Send,
 {
     let (lengths, origin, last) = left_by_two::<R, F>(rt, alloc, 9, OF_THREE)?;
     Ok(
@@ -116,7 +116,7 @@ pub fn two_meet_the_limit<R: Threads + Sync, F: SharedFamily<Posted<Band>>>(
 ) -> Result<bool, AllocError>
 where
     F::Seat: Send,
-    F::Told: Send,
+    F::Receipt: Send,
 {
     let (lengths, origin, last) = left_by_two::<R, F>(rt, alloc, 1, TO_LIMIT)?;
     Ok(lengths == [2, 2] && origin == Origin::Sound && (last.stamp.tag, last.item.now) == (1, 1))

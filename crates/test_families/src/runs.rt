@@ -33,7 +33,7 @@ fn wrong_tasks<R: Threads + Sync, F: SharedFamily<Posted<Band>>>(
 ) -> Result<Option<&'static str>, AllocError>
 where
     F::Seat: Send,
-    F::Told: Send,
+    F::Receipt: Send,
 {
     if !write_to_limit::<R, F>(rt, alloc)? {
         return Ok(Some("one task writes up to the limit and beyond, the other reads"));
@@ -66,7 +66,7 @@ fn wrong<R: Threads + Sync, F: SharedFamily<Posted<Band>> + SoFar<Posted<Band>>>
 ) -> Result<Option<&'static str>, AllocError>
 where
     F::Seat: Send,
-    F::Told: Send,
+    F::Receipt: Send,
 {
     if let Some(shown) = wrong_tasks::<R, F>(rt, alloc)? {
         return Ok(Some(shown));

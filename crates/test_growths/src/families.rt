@@ -24,7 +24,7 @@ fn over<R: Print + Threads + Sync, F: SharedFamily<Posted<Band>>>(
 ) -> io::Result<()>
 where
     F::Seat: Send,
-    F::Told: Send,
+    F::Receipt: Send,
 {
     match call {
         Call::Board(call) => boards::over::<F>(rt, alloc, call),

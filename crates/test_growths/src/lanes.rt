@@ -63,7 +63,7 @@ fn one_lane<R: Threads + Sync, F: SharedFamily<Posted<Band>>>(
 ) -> Result<Vec<Lane<Band, F>>, AllocError>
 where
     F::Seat: Send,
-    F::Told: Send,
+    F::Receipt: Send,
 {
     let Ok((board, mut passes)) = Board::<Band, F>::new(alloc, 2, 9, OPENING) else {
         return Err(AllocError);
@@ -167,7 +167,7 @@ fn all_tasks<R: Threads + Sync, F: SharedFamily<Posted<Band>>>(
 ) -> Result<Outcome, AllocError>
 where
     F::Seat: Send,
-    F::Told: Send,
+    F::Receipt: Send,
 {
     let Ok((board, passes)) = Board::<Band, F>::new(alloc, TASKS, 9_999, OPENING) else {
         return Err(AllocError);
@@ -191,7 +191,7 @@ fn logs_of<R: Threads + Sync, F: SharedFamily<Posted<Band>>>(
 ) -> Result<Vec<Vec<Entry<Band>>>, AllocError>
 where
     F::Seat: Send,
-    F::Told: Send,
+    F::Receipt: Send,
 {
     let Ok((board, passes)) = Board::<Band, F>::new(alloc, TASKS, 9_999, OPENING) else {
         return Err(AllocError);
@@ -222,7 +222,7 @@ pub fn over<R: Print + Threads + Sync, F: SharedFamily<Posted<Band>>>(
 ) -> io::Result<()>
 where
     F::Seat: Send,
-    F::Told: Send,
+    F::Receipt: Send,
 {
     match call {
         Call::New => print_log(rt, one_lane::<R, F>(rt, alloc)),

@@ -33,3 +33,5 @@ mod Dealing
 mod OnePass
 mod Keeping
 mod CellsSoFar
+mod Rereading
+mod Beside

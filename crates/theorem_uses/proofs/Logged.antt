@@ -47,11 +47,11 @@ module _ {V : Type 0} where
   chosen_by (Write x) (Seen p) c h = absurd h
   chosen_by (Write x) (Ended p) c h = (λ e. absurd (no_read x e), λ item e. inr (p, refl, h))
 
-  nothing : (calls : List (Called V)) → EachTells [] calls → calls ≡ []
+  pub nothing : (calls : List (Called V)) → EachTells [] calls → calls ≡ []
   nothing [] h = refl
   nothing (c ∷ cs) h = absurd h
 
-  one : (e : Entry V) (calls : List (Called V)) → EachTells (e ∷ []) calls → (c : Called V) × (calls ≡ c ∷ []) × TellsOfCall e c
+  pub one : (e : Entry V) (calls : List (Called V)) → EachTells (e ∷ []) calls → (c : Called V) × (calls ≡ c ∷ []) × TellsOfCall e c
   one e [] h = absurd h
   one e (c ∷ cs) h = (c, ap (λ z. c ∷ z) (nothing cs h.1), h.0)
 
@@ -83,7 +83,7 @@ module _ {V : Type 0} (equal : V → V → Bool) where
   pub sound : SoundLogsShow equal
   sound opening logs t j log e h at there = (h.0 t j log e at there, h.1 t j log e at there)
 
-  breaks : (rule : ℕ → Stamp → Entry V → Bool) (logs : List (List (Entry V))) (task call : ℕ) → IsFirstBrokenOrigin rule logs task call →
+  pub breaks : (rule : ℕ → Stamp → Entry V → Bool) (logs : List (List (Entry V))) (task call : ℕ) → IsFirstBrokenOrigin rule logs task call →
       BreaksFirst equal rule logs task call
   breaks rule logs task call h = record {
     log = h.log;

@@ -168,14 +168,12 @@ module _ {V : Type 0} (width n limit : ℕ) (opening : V) (steps : List ℕ) (di
       (λ z q op e at_q writes. let c = of_call z q op (uncut run.order z at_y.0 q e) at_q in
       none op.who c.1 c.2.call c.2.who c.2.made (sym c.2.kind ∙ writes)) at_y.1 y.there (y.kind ∙ refused)
 
-  stamps_rise : (i k j m end : ℕ) (a b : Called V) → i < n → j < n → slice_get (did i).calls k ≡ Some a →
-      slice_get (did j).calls m ≡ Some b → end_of width n (did i) k a ≡ Some end → end < b.begin → b.kind ≡ Write →
+  rise_to : (i k j m end : ℕ) (a b : Called V) → i < n → slice_get (did i).calls k ≡ Some a → (y : Placed j m b) →
+      (e : ℕ) × (slice_get run.order e ≡ Some y.place) → end_of width n (did i) k a ≡ Some end → end < b.begin →
       IsAtMost a.chosen.stamp b.chosen.stamp
-  stamps_rise i k j m end a b li lj at_a at_b ended later writes =
+  rise_to i k j m end a b li at_a y at_y ended later =
       let x = placed i k a li at_a in
-      let y = placed j m b lj at_b in
       let at_x = stands i k end a x ended in
-      let at_y = somewhere y.place (write_stands j m b y writes) in
       elim (cases_eq x.place y.place) [
         | inl same ↦
             inl (ap (λ (z : Option Stamp). unwrap_or z a.chosen.stamp) (same_Some (Some a.chosen.stamp) (Some b.chosen.stamp)
@@ -189,6 +187,20 @@ module _ {V : Type 0} (width n limit : ℕ) (opening : V) (steps : List ℕ) (di
             (at_x.1, x.there) (at_y.1, y.there) x.stamp y.stamp)
       ]
 
+  stamps_rise : (i k j m end : ℕ) (a b : Called V) → i < n → j < n → slice_get (did i).calls k ≡ Some a →
+      slice_get (did j).calls m ≡ Some b → end_of width n (did i) k a ≡ Some end → end < b.begin → b.kind ≡ Write →
+      IsAtMost a.chosen.stamp b.chosen.stamp
+  stamps_rise i k j m end a b li lj at_a at_b ended later writes =
+      let y = placed j m b lj at_b in
+      rise_to i k j m end a b li at_a y (somewhere y.place (write_stands j m b y writes)) ended later
+
+  -- the same to a call that has ended
+  ended_rise : (i k j m end fin : ℕ) (a b : Called V) → i < n → j < n → slice_get (did i).calls k ≡ Some a →
+      slice_get (did j).calls m ≡ Some b → end_of width n (did i) k a ≡ Some end → end < b.begin → end_of width n (did j) m b ≡ Some fin →
+      IsAtMost a.chosen.stamp b.chosen.stamp
+  ended_rise i k j m end fin a b li lj at_a at_b ended later finished =
+      let y = placed j m b lj at_b in rise_to i k j m end a b li at_a y (stands j m fin b y finished) ended later
+
 module _ {V : Type 0} where
   pub reads_the_only_so_far : ReadsThoughOthersStop V
   reads_the_only_so_far width n limit opening steps did i k j m end fin w r run only l at reads ended later finished =
@@ -201,6 +213,12 @@ module _ {V : Type 0} where
   pub stamps_rise_so_far : StampsRiseSoFar V
   stamps_rise_so_far width n limit opening steps did i k j m end a b run li lj at_a at_b ended later writes =
       stamps_rise width n limit opening steps did run i k j m end a b li lj at_a at_b ended later writes
+
+  pub ended_rise_so_far : (width n limit : ℕ) (opening : V) (steps : List ℕ) (did : ℕ → Did V)
+      (run : IsAtomicRunSoFar width n limit opening steps did) (i k j m end fin : ℕ) (a b : Called V) → i < n → j < n →
+      slice_get (did i).calls k ≡ Some a → slice_get (did j).calls m ≡ Some b → end_of width n (did i) k a ≡ Some end → end < b.begin →
+      end_of width n (did j) m b ≡ Some fin → IsAtMost a.chosen.stamp b.chosen.stamp
+  ended_rise_so_far = ended_rise
 
   pub calls_stand_so_far : CallsStandSoFar V
   calls_stand_so_far width n limit opening steps did i k c run l at =

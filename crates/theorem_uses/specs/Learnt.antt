@@ -14,7 +14,7 @@ module _ {V F S T : Type 0} (words : FamilyWords F (Posted V) S T) where
   -- a receipt is of the board, and names one record of a process of it, of each register of this process
   abbrev pub ReceiptsShow : Type 0
   ReceiptsShow = (board : Board V F S T) (receipt : Receipt V F S T) → IsReceipt words board receipt →
-      words.is_told board.family receipt.told × (words.sender receipt.told ≡ receipt.from) × (receipt.from < board.processes)
+      words.is_receipt board.family receipt.told × (words.sender receipt.told ≡ receipt.from) × (receipt.from < board.processes)
       × ((j : ℕ) → j < board.processes → j ≢ receipt.from → words.named receipt.told j ≡ receipt.item)
 
   -- a receipt that was made names its sender's own record, and has its time and its writes

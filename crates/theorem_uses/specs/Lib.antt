@@ -8,6 +8,7 @@ pub mod Handles
 pub mod Learnt
 pub mod Lent
 pub mod Logs
+pub mod Lost
 pub mod Makes
 pub mod Mechanisms
 pub mod Noted

@@ -21,7 +21,7 @@ use Rattle.cell_contract.specs.Running.{last_or}
 use Rattle.cell_contract.specs.declared.family.Family.{Ghosts as FamilyWords}
 use Rattle.board_live.specs.declared.board.Board.{Board}
 use Rattle.board_live.specs.declared.board.Pass.{Pass}
-use Rattle.board_live.specs.declared.board.TagsEnded.{TagsEnded}
+use Rattle.board_live.specs.declared.board.Refused.{Refused}
 use Rattle.board_live.specs.declared.record.Posted.{Posted}
 use Rattle.board_live.specs.Ends.{AllAtomic, HaveAtomicOrder, IsGreatest, standing}
 use Rattle.board_history.specs.BoardRuns.{Called}
@@ -86,7 +86,7 @@ module _ {C T P G R : Type 0} (words : CellWords C T P G R) (fits : T → Type 0
 module _ {V F S T : Type 0} (words : FamilyWords F (Posted V) S T) where
   -- the last process's read and write are calls, the one after the other, and choose by what they saw
   abbrev pub BoardCalls : Type 0
-  BoardCalls = (board : Board V F S T) (passes : List (Pass V F S T)) (item : V) (read : Posted V) (wrote : Result Stamp (TagsEnded V)) →
+  BoardCalls = (board : Board V F S T) (passes : List (Pass V F S T)) (item : V) (read : Posted V) (wrote : Result Stamp (Refused V)) →
       BoardTheorem words board passes item read wrote →
       (others : List (Pass V F S T)) × (pass : Pass V F S T) × (between : Pass V F S T) × (after : Pass V F S T) × (seen : Posted V)
       × (chosen : Posted V) × (passes ≡ others ++ pass ∷ []) × AddsCall words board Read pass between read read
@@ -119,5 +119,5 @@ module _ {V F S T : Type 0} (words : FamilyWords F (Posted V) S T) where
   WritesChoose = (limit process : ℕ) (item : V) (seen chosen : Posted V) →
       ((s : Stamp) → ChoosesStamp limit process item seen chosen (Ok s) → (seen.stamp.tag < limit)
       × (s ≡ record { tag = seen.stamp.tag + 1; writer = process }) × (chosen ≡ record { stamp = s; item = item }))
-      × ((e : TagsEnded V) → ChoosesStamp limit process item seen chosen (Err e) →
+      × ((e : Refused V) → ChoosesStamp limit process item seen chosen (Err e) →
       (limit ≤ seen.stamp.tag) × (e.seen ≡ seen) × (chosen ≡ seen))

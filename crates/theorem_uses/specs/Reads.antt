@@ -1,7 +1,7 @@
 -- Consequences of a read, a look, a hold and a loan through C, by its status (this project's own).
-use Rattle.std.specs.Prelude.{◌≡◌, ◌≢◌, ◌⊎◌, ℕ, ◌+◌, ◌≤◌, [], ◌∷◌, ◌++◌}
+use Rattle.std.specs.Prelude.{◌≡◌, ◌≢◌, ◌⊎◌, ℕ, ◌+◌, ◌<◌, ◌≤◌, [], ◌∷◌, ◌++◌, slice_get, Some}
 use Rattle.std.specs.Arc.{arc_value}
-use Rattle.cell_contract.specs.Intervals.{IsNextAnswer, IsNextCall}
+use Rattle.cell_contract.specs.Intervals.{At, IsNextAnswer, IsNextCall}
 use Rattle.cell_contract.specs.Running.{IsAnswer}
 use Rattle.cell_four_slot.specs.Words as four
 use Rattle.cell_triple.specs.Words as triple
@@ -41,6 +41,20 @@ module _ (W : Type 0) where
       × IsNextAnswer (triple.opening_of (arc_value g.room.inner.cell)) (triple.known_to g.room.inner.get) (triple.known_to h.room.inner.get)
       (triple.numbers_of g.room.inner.get) (triple.numbers_of h.room.inner.get) (triple.answers_of h.room.inner.get)
       (triple.get_times h.room.inner.get) a
+
+  -- whatever the other handle writes: once a read has answered, no read of the side, over four slots, that began after another one had ended
+  -- has a smaller number than that one
+  abbrev pub FourSlotReadsNeverFall : Type 0
+  FourSlotReadsNeverFall = (g h : FourSlotReader W) (a : Numbered W) (i j e f s : ℕ) (b c : Numbered W) → four_slot.HasRead g h a →
+      slice_get (four.answers_of h.get) i ≡ Some b → slice_get (four.answers_of h.get) j ≡ Some c → At (four.get_times h.get).ends i e →
+      At (four.get_times h.get).ends j f → At (four.get_times h.get).begins j s → e < s → c.number < b.number → ⊥
+
+  -- nor over a triple buffer, and if the number is the same the words are
+  abbrev pub TripleReadsNeverFall : Type 0
+  TripleReadsNeverFall = (g h : TripleReader W) (a : Numbered W) (i j e f s : ℕ) (b c : Numbered W) → HasRead g h a →
+      slice_get (triple.answers_of h.room.inner.get) i ≡ Some b → slice_get (triple.answers_of h.room.inner.get) j ≡ Some c →
+      At (triple.get_times h.room.inner.get).ends i e → At (triple.get_times h.room.inner.get).ends j f →
+      At (triple.get_times h.room.inner.get).begins j s → e < s → (b.number ≤ c.number) × (b.number ≡ c.number → b.words ≡ c.words)
 
 module _ (D W : Type 0) where
   -- with status 0 the handle had a reading side, which has read just this; with any other it is what it was, and so are record and number

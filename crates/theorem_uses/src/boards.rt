@@ -3,7 +3,7 @@ ghost use Rattle.theorem_uses.specs.Boards.{ComesOfOneSchedule, EndsWithTheGreat
 ghost use Rattle.theorem_uses.specs.Boards.{RefusesNone, SeesTheGreater, SeesWhatWasTold};
 ghost use Rattle.theorem_uses.specs.Boards.{ForgetsNoReceipt, ShowsItsOwn, StampsRiseByTime, TakesTime};
 ghost use Rattle.theorem_uses.specs.Going.{HaveOneGreatest, OrdersShow, RegistersHaveEnded, RegistersShow};
-ghost use Rattle.theorem_uses.specs.OnePass.{OnePassShows};
+ghost use Rattle.theorem_uses.specs.OnePass.{OnePassShows, StaleCallsAreAbsurd};
 ghost use Rattle.theorem_uses.specs.Passes.{AllPassesShow, CallsShow, MadeShows, PassesShow};
 ghost use Rattle.history_core.specs.declared.history.Kind.{Kind};
 
@@ -37,14 +37,16 @@ pub fn calls_show<V: RecordLaw, F: Family<Posted<V>>>(
     ensures later { (kind : Kind) → TakesTime ⟦<F as Family<Posted<V>>>⟧ V.obeys board.now kind old.now new.now seen.now }
 {}
 
-/// Of what a board shows while it goes on: passes have one greatest record, nobody is shown what wasn't told, and a read
-/// after the only write has its record. One pass shows its own calls among all.
+/// Of what a board shows while it goes on: passes have one greatest record, nobody is shown what wasn't told, and a
+/// read after the only write has its record. One pass shows its own calls among all, and no stale answer, whoever is
+/// stopped.
 pub fn shown_boards_show<V: RecordLaw, F: Family<Posted<V>>>()
     ensures greatest { HaveOneGreatest ⟦<F as Family<Posted<V>>>⟧ }
     ensures registers { RegistersShow ⟦<F as Family<Posted<V>>>⟧ }
     ensures ended { RegistersHaveEnded ⟦<F as Family<Posted<V>>>⟧ }
     ensures orders { OrdersShow ⟦<F as Family<Posted<V>>>⟧ }
     ensures one { OnePassShows ⟦<F as Family<Posted<V>>>⟧ }
+    ensures stale { StaleCallsAreAbsurd ⟦<F as Family<Posted<V>>>⟧ }
 {}
 
 /// What a pass is, what was made with it, and what a call adds to that.

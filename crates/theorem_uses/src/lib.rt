@@ -16,6 +16,7 @@ pub mod heard;
 pub mod learnt;
 pub mod lent;
 pub mod logs;
+pub mod lost;
 pub mod makes;
 pub mod mechanisms;
 pub mod noted;

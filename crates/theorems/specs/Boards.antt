@@ -8,7 +8,7 @@ use Rattle.cell_contract.specs.declared.family.Family.{Ghosts as FamilyWords}
 use Rattle.board_history.specs.BoardRuns.{Called}
 use Rattle.board_live.specs.declared.board.Board.{Board}
 use Rattle.board_live.specs.declared.board.Pass.{Pass}
-use Rattle.board_live.specs.declared.board.TagsEnded.{TagsEnded}
+use Rattle.board_live.specs.declared.board.Refused.{Refused}
 use Rattle.board_live.specs.declared.record.Posted.{Posted}
 use Rattle.board_live.specs.Ends.{AllAtomic, HaveAtomicOrder, IsGreatest, standing}
 use Rattle.board_live.specs.Passes.{ChoosesStamp, HasMade, kind_of}
@@ -26,7 +26,7 @@ module _ {V F S T : Type 0} (words : FamilyWords F (Posted V) S T) (board : Boar
     pub atomic : HaveAtomicOrderSoFar words board new
 
   -- *The theorem of a board*, of a read and a write by the last process, with passes that had made any calls before
-  pub record BoardTheorem (passes : List (Pass V F S T)) (item : V) (read : Posted V) (wrote : Result Stamp (TagsEnded V)) : Type 0 where
+  pub record BoardTheorem (passes : List (Pass V F S T)) (item : V) (read : Posted V) (wrote : Result Stamp (Refused V)) : Type 0 where
     -- the process's pass before, between and after its calls, and the others'
     pub pass : Pass V F S T
     pub between : Pass V F S T

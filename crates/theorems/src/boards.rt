@@ -3,7 +3,7 @@ ghost use Rattle.std.specs.Prelude.{IsTrue};
 ghost use Rattle.board_live.specs.Ends.{AllPasses};
 ghost use Rattle.theorems.specs.Boards.{BoardEndTheorem, BoardTheorem};
 
-use board_live::{Board, Pass, Posted, RecordLaw, TagsEnded};
+use board_live::{Board, Pass, Posted, RecordLaw, Refused};
 use cell_contract::Family;
 use matrix_core::Stamp;
 
@@ -13,7 +13,7 @@ pub fn board_theorem<V: RecordLaw, F: Family<Posted<V>>>(
     board: Board<V, F>,
     passes: Vec<Pass<V, F>>,
     item: V,
-) -> (Posted<V>, Result<Stamp, TagsEnded<V>>)
+) -> (Posted<V>, Result<Stamp, Refused<V>>)
     requires passes { AllPasses ⟦<F as Family<Posted<V>>>⟧ V.obeys board passes.items }
     requires item { IsTrue (V.obeys item) }
     ensures { BoardTheorem ⟦<F as Family<Posted<V>>>⟧ board passes.items item result.0 result.1 }

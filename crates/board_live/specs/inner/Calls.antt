@@ -5,7 +5,7 @@ use Rattle.cell_contract.specs.declared.times.Times.{Times}
 use Rattle.cell_contract.specs.Running.{last_or}
 use Rattle.cell_contract.specs.declared.family.Family.{Ghosts as FamilyWords}
 use Rattle.cell_contract.specs.Accesses.{IsWriteAccess, KeepsEach}
-use Rattle.cell_contract.specs.Plans.{AreSoFar, doings}
+use Rattle.cell_contract.specs.Plans.{AreSoFar}
 use Rattle.matrix_core.specs.Lines.{other}
 use Rattle.board_history.specs.Accesses.{IsInterval}
 use Rattle.board_live.specs.declared.record.Posted.{Posted}
@@ -34,7 +34,7 @@ module _ {V F S T : Type 0} (words : FamilyWords F (Posted V) S T) where
   -- what all processes have done so far, shown by this seat
   abbrev pub ShowsAll : F → S → Type 0
   ShowsAll family seat = AreSoFar (MakesCalls (words.opening family) words.width (words.processes family) (words.limit family))
-      (words.opening family) (words.processes family) (words.who seat) (doings (words.times seat) (words.writes seat) (words.reads seat))
+      (words.opening family) (words.processes family) (words.who seat) (words.times seat) (words.writes seat) (words.reads seat)
 
   -- the first of the others were read, each once
   pub record HasReadColumn (obeys : V → Bool) (family : F) (process count : ℕ) (seat seat' : S) (seen seen' : Posted V) : Type 0 where

@@ -1,6 +1,7 @@
--- A composed board while a term of it is played: the board, and what its steps have told of the operations. Only the player's loop
--- goes by this; what a report is, BoardReports says. This is this project's own.
-use Rattle.std.specs.Prelude.{◌≡◌, ℕ, ◌+◌, ◌-◌, ◌*◌, ◌/◌, ◌<◌, ◌≤◌, List, [], ◌∷◌, ◌++◌, length, replicate, slice_get, slice_set}
+-- A composed board while a term of it is played: the board, and what its steps have told of the operations. Only the
+-- player's loop goes by this; what a report is, BoardReports says. This is this project's own.
+use Rattle.std.specs.Prelude.{◌≡◌, ℕ, ◌+◌, ◌-◌, ◌*◌, ◌/◌, ◌<◌, ◌≤◌, List, [], ◌∷◌, ◌++◌, length, replicate, slice_get}
+use Rattle.std.specs.Prelude.{slice_set}
 use Rattle.std.specs.Prelude.{slice_index_or, Option, None, Some, IsSome, nat_eq, if◌then◌else◌}
 use Rattle.std.specs.List.{fold}
 use Rattle.std.specs.Option.{option_and_then}
@@ -35,8 +36,8 @@ next_seat n seat = if nat_eq (seat.made + 1) (board_accesses n)
     then record { place = seat.place; operation = seat.operation + 1; made = 0 }
     else record { place = seat.place; operation = seat.operation; made = seat.made + 1 }
 
--- the board, the position of the next step, the operations so far with the stamps and slots that they chose, and the seat of each
--- process
+-- the board, the position of the next step, the operations so far with the stamps and slots that they chose, and the
+-- seat of each process
 pub record BoardPlaying (R : Type 0) : Type 0 where
   pub board : Board R
   pub now : ℕ
@@ -72,7 +73,8 @@ module _ {R : Type 0} where
   abbrev pub opened_first : BoardPlaying R → ℕ → Wish R → BoardPlaying R
   opened_first play who wish = if nat_eq (board_seat play who).made 0 then opened play who wish else play
 
-  -- what a step with this number in its operation makes of the operations, where the progress after it is `line`: one of n processes
+  -- what a step with this number in its operation makes of the operations, where the progress after it is `line`: one
+  -- of n processes
   abbrev pub told_ops : ℕ → BoardSeat → ℕ → Progress R → List (Op R) → List (Op R)
   told_ops n seat now line ops = if nat_eq seat.made (choosing n)
       then changed (chose line.outcome) seat.place ops
@@ -100,7 +102,8 @@ module _ {R : Type 0} where
 
   -- what the operation of a process is to do
   abbrev pub wish_now : List (List (Wish R)) → BoardPlaying R → ℕ → Option (Wish R)
-  wish_now plans play who = option_and_then (λ plan. slice_get plan (board_seat play who).operation) (slice_get plans who)
+  wish_now plans play who =
+      option_and_then (λ plan. slice_get plan (board_seat play who).operation) (slice_get plans who)
 
   abbrev pub plays : BoardPlaying R → ℕ → Option (Wish R) → BoardPlaying R
   plays play who None = play
@@ -116,7 +119,8 @@ module _ {R : Type 0} where
     pub inside : who < length play.seats
     pub stamps : length play.stamps ≡ length play.ops
     pub slots : length play.slots ≡ length play.ops
-    pub wide : (p : ℕ) (row : List (Option ℕ)) → slice_get play.slots p ≡ Some row → length row ≡ 2 * (length play.seats - 1)
+    pub wide : (p : ℕ) (row : List (Option ℕ)) → slice_get play.slots p ≡ Some row →
+        length row ≡ 2 * (length play.seats - 1)
     pub room : play.now < max_position
     pub count : (board_seat play who).operation < max_position
     pub made : (board_seat play who).made < board_accesses (length play.seats)
@@ -130,7 +134,8 @@ module _ {R : Type 0} where
     pub inside : who < length play.seats
     pub stamps : length play.stamps ≡ length play.ops
     pub slots : length play.slots ≡ length play.ops
-    pub wide : (p : ℕ) (row : List (Option ℕ)) → slice_get play.slots p ≡ Some row → length row ≡ 2 * (length play.seats - 1)
+    pub wide : (p : ℕ) (row : List (Option ℕ)) → slice_get play.slots p ≡ Some row →
+        length row ≡ 2 * (length play.seats - 1)
     pub room : play.now < max_position
     pub count : (board_seat play who).operation < max_position
     pub made : (board_seat play who).made < board_accesses (length play.seats)

@@ -1,6 +1,8 @@
--- What the player holds: the operations that the steps begin, the ends of those that end, and a run over numbered records. Only
--- the player's private functions cite this, which is this project's own; what `play_cell` promises stands in CellReports.
-use Rattle.std.specs.Prelude.{◌≡◌, ℕ, ◌+◌, ◌*◌, ◌/◌, ◌%◌, ◌<◌, Bool, ◌&&◌, nat_eq, if◌then◌else◌, List, [], ◌∷◌, length, map, replicate}
+-- What the player holds: the operations that the steps begin, the ends of those that end, and a run over numbered
+-- records. Only the player's private functions cite this, which is this project's own; what `play_cell` promises stands
+-- in CellReports.
+use Rattle.std.specs.Prelude.{◌≡◌, ℕ, ◌+◌, ◌*◌, ◌/◌, ◌%◌, ◌<◌, Bool, ◌&&◌, nat_eq, if◌then◌else◌, List, [], ◌∷◌, length}
+use Rattle.std.specs.Prelude.{map, replicate}
 use Rattle.std.specs.Prelude.{slice_get, Option, Some}
 use Rattle.std.specs.Option.{option_map}
 use Rattle.history_core.specs.declared.history.Op.{Op}
@@ -36,7 +38,8 @@ pub record IsPartsOf (steps : List ℕ) (parts : List Started) : Type 0 where
       slice_get (positions 0 (actor part.turn) steps) (part.number * 5 + 0) ≡ Some part.starts
   pub all : (turn : Turn) (k begin : ℕ) → slice_get (positions 0 (actor turn) steps) (k * 5 + 0) ≡ Some begin →
       (p : ℕ) × (slice_get parts p ≡ Some (started turn k begin))
-  pub rising : (p q : ℕ) (a b : Started) → slice_get parts p ≡ Some a → slice_get parts q ≡ Some b → p < q → a.starts < b.starts
+  pub rising : (p q : ℕ) (a b : Started) → slice_get parts p ≡ Some a → slice_get parts q ≡ Some b → p < q →
+      a.starts < b.starts
 
 abbrev pub noted : {T : Type 0} → Bool → T → List T
 noted here item = if here then item ∷ [] else []
@@ -53,7 +56,8 @@ abbrev pub makes : Turn → ℕ → Turn → ℕ → Bool
 makes turn step side access = nat_eq (actor turn) (actor side) && nat_eq (step % 5) access
 
 -- what the steps of these actors say of the operations
-pub record IsOperationsOf (steps : List ℕ) (parts : List Started) (writer_ends reader_ends stores : List ℕ) : Type 0 where
+pub record IsOperationsOf (steps : List ℕ) (parts : List Started)
+    (writer_ends reader_ends stores : List ℕ) : Type 0 where
   pub are_parts : IsPartsOf steps parts
   pub are_writer_ends : IsAccessesOf 0 4 steps writer_ends
   pub are_reader_ends : IsAccessesOf 1 4 steps reader_ends
@@ -64,8 +68,8 @@ abbrev pub plan_of : {R : Type 0} → Turn → List R → ℕ → List (Wish R)
 plan_of Writer writes reads = map Write writes
 plan_of Reader writes reads = replicate reads Read
 
--- the operation of a part: it ends where its side's operation of that number does; a write has the schedule's item, a read its
--- answer
+-- the operation of a part: it ends where its side's operation of that number does; a write has the schedule's item, a
+-- read its answer
 abbrev pub op_by : {R : Type 0} → Turn → ℕ → ℕ → List R → List ℕ → List ℕ → List (Numbered R) → Op R
 op_by Writer number starts writes writer_ends reader_ends answers =
     record { who = 0; kind = WriteKind; starts = starts; ends = slice_get writer_ends number; item = slice_get writes number }
@@ -79,7 +83,8 @@ op_by Reader number starts writes writer_ends reader_ends answers =
     }
 
 abbrev pub op_of : {R : Type 0} → List R → List ℕ → List ℕ → List (Numbered R) → Started → Op R
-op_of writes writer_ends reader_ends answers part = op_by part.turn part.number part.starts writes writer_ends reader_ends answers
+op_of writes writer_ends reader_ends answers part =
+    op_by part.turn part.number part.starts writes writer_ends reader_ends answers
 
 -- and its slot
 abbrev pub slot_by : Turn → ℕ → List ℕ → List ℕ → Option ℕ

@@ -1,5 +1,6 @@
--- What the player makes of a schedule: the run over numbered records, and the report from it and from the steps alone. Only the
--- player's private functions cite this, which is this project's own; what `play_cell` promises stands in CellReports.
+-- What the player makes of a schedule: the run over numbered records, and the report from it and from the steps alone.
+-- Only the player's private functions cite this, which is this project's own; what `play_cell` promises stands in
+-- CellReports.
 use Rattle.std.specs.Prelude.{◌≡◌, ℕ, ◌+◌, List, [], ◌∷◌, length, map, Option}
 use Rattle.std.specs.List.{fold}
 use Rattle.history_core.specs.Schedules.{max_limit}
@@ -12,7 +13,8 @@ use Rattle.four_slot_play.specs.declared.player.steps.Started.{Started}
 use Rattle.four_slot_play.specs.declared.player.run.InPlay.{InPlay}
 use Rattle.four_slot_core.specs.declared.state.State.{State}
 use Rattle.four_slot_core.specs.Events.{after_read, after_write, answer, slot_number}
-use Rattle.four_slot_core.specs.Traces.{Trace, answered_by_read, moments_from, shown_by_read, shown_by_write, trace, trace_start}
+use Rattle.four_slot_core.specs.Traces.{Trace, answered_by_read, moments_from, shown_by_read, shown_by_write, trace}
+use Rattle.four_slot_core.specs.Traces.{trace_start}
 use Rattle.four_slot_core.specs.Play.{actor, item_of}
 use Rattle.four_slot_play.specs.inner.Parts.{IsPartsOf, IsAccessesOf, op_of, slot_of}
 use Rattle.four_slot_play.specs.inner.Weaves.{IsOrdered}
@@ -64,7 +66,8 @@ abbrev pub numbered_run : {R : Type 0} → R → R → List R → List Turn → 
 numbered_run opening noise writes steps =
     fold (step_of (numbered opening writes)) (log_of (trace_start (opening_record opening) (opening_record noise))) steps
 
-pub record IsAssembled {R : Type 0} (log : Log (Numbered R)) (steps : List Turn) (writes : List R) (terms : List Term) (ops : List (Op R))
+pub record IsAssembled {R : Type 0} (log : Log (Numbered R)) (steps : List Turn) (writes : List R) (terms : List Term)
+    (ops : List (Op R))
     (slots : List (Option ℕ)) (order : List ℕ) : Type 0 where
   pub parts : List Started
   pub writer_ends : List ℕ

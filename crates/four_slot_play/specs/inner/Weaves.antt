@@ -1,5 +1,6 @@
--- How the player makes the order: the places of the listed writes and of the finished reads, woven by their numbers. Only its
--- private functions cite this, which is this project's own; the meaning of a report's order stands in ReportOrders.
+-- How the player makes the order: the places of the listed writes and of the finished reads, woven by their numbers.
+-- Only its private functions cite this, which is this project's own; the meaning of a report's order stands in
+-- ReportOrders.
 use Rattle.std.specs.Prelude.{◌≡◌, ℕ, ◌<◌, ◌≤◌, List, slice_get, length, Some}
 use Rattle.four_slot_core.specs.declared.schedule.Turn.{Turn}
 use Rattle.four_slot_core.specs.declared.schedule.Turn.TheVariants.{Writer, Reader}
@@ -29,7 +30,8 @@ pub record IsPlacesOf (turn : Turn) (count : ℕ) (parts : List Started) (places
 
 abbrev pub NumbersRise : {R : Type 0} → List (Numbered R) → Type 0
 NumbersRise {R} answers =
-    (l m : ℕ) (a b : Numbered R) → slice_get answers l ≡ Some a → slice_get answers m ≡ Some b → l ≤ m → a.number ≤ b.number
+    (l m : ℕ) (a b : Numbered R) → slice_get answers l ≡ Some a → slice_get answers m ≡ Some b → l ≤ m →
+    a.number ≤ b.number
 
 abbrev pub NumbersBelow : {R : Type 0} → ℕ → List (Numbered R) → Type 0
 NumbersBelow {R} count answers = (l : ℕ) (a : Numbered R) → slice_get answers l ≡ Some a → a.number ≤ count
@@ -42,8 +44,8 @@ pub record Entry : Type 0 where
 abbrev pub entry : Turn → ℕ → Entry
 entry turn number = record { turn = turn; number = number }
 
--- the first entry goes before the second: writes and reads by their own numbers on their side, and write j before the reads
--- that have a number above j
+-- the first entry goes before the second: writes and reads by their own numbers on their side, and write j before the
+-- reads that have a number above j
 abbrev pub GoesBy : {R : Type 0} → List (Numbered R) → Turn → ℕ → Turn → ℕ → Type 0
 GoesBy answers Writer j Writer k = j < k
 GoesBy {R} answers Writer j Reader m = (a : Numbered R) → slice_get answers m ≡ Some a → j < a.number
@@ -65,7 +67,8 @@ IsAmong writes reads e = IsAmongBy writes reads e.turn e.number
 pub record IsWoven {R : Type 0} (answers : List (Numbered R)) (writes reads : ℕ) (entries : List Entry) : Type 0 where
   pub each : (x : ℕ) (e : Entry) → slice_get entries x ≡ Some e → IsAmong writes reads e
   pub all : (e : Entry) → IsAmong writes reads e → (x : ℕ) × (slice_get entries x ≡ Some e)
-  pub sorted : (x y : ℕ) (a b : Entry) → slice_get entries x ≡ Some a → slice_get entries y ≡ Some b → x < y → Goes answers a b
+  pub sorted : (x y : ℕ) (a b : Entry) → slice_get entries x ≡ Some a → slice_get entries y ≡ Some b → x < y →
+      Goes answers a b
 
 -- of the list of its side
 abbrev pub list_of : List ℕ → List ℕ → Turn → List ℕ
@@ -73,14 +76,17 @@ list_of writes reads Writer = writes
 list_of writes reads Reader = reads
 
 -- the order has the place of each entry
-pub record IsWeave {R : Type 0} (writes reads : List ℕ) (answers : List (Numbered R)) (i j : ℕ) (order : List ℕ) : Type 0 where
+pub record IsWeave {R : Type 0} (writes reads : List ℕ) (answers : List (Numbered R)) (i j : ℕ)
+    (order : List ℕ) : Type 0 where
   pub entries : List Entry
   pub long : length entries ≡ length order
-  pub places : (x : ℕ) (e : Entry) → slice_get entries x ≡ Some e → slice_get order x ≡ slice_get (list_of writes reads e.turn) e.number
+  pub places : (x : ℕ) (e : Entry) → slice_get entries x ≡ Some e →
+      slice_get order x ≡ slice_get (list_of writes reads e.turn) e.number
   pub woven : IsWoven answers i j entries
 
 -- the order lists the first operations of each side, by their places among the parts
-pub record IsOrdered {R : Type 0} (parts : List Started) (count : ℕ) (answers : List (Numbered R)) (order : List ℕ) : Type 0 where
+pub record IsOrdered {R : Type 0} (parts : List Started) (count : ℕ) (answers : List (Numbered R))
+    (order : List ℕ) : Type 0 where
   pub entries : List Entry
   pub long : length entries ≡ length order
   pub places : (x : ℕ) (e : Entry) → slice_get entries x ≡ Some e →

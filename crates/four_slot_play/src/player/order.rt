@@ -1,4 +1,5 @@
-//! The order of a report: the places of the listed writes and of the finished reads, woven by the numbers of the answers.
+//! The order of a report: the places of the listed writes and of the finished reads, woven by the numbers of the
+//! answers.
 
 ghost use Rattle.std.specs.Prelude.{◌≡◌, ◌<◌, ◌++◌, length, nat_eq, IfOk, IsTrue, OnOk, ◌↔◌};
 ghost use Rattle.four_slot_core.specs.Play.{actor};

@@ -77,8 +77,8 @@ pub(super) struct Started {
     pub(super) starts: u64,
 }
 
-/// What the steps say of the operations: those that begin, in order of beginning; the end of each that ends, by side; and W4 of
-/// each write that makes it.
+/// What the steps say of the operations: those that begin, in order of beginning; the end of each that ends, by side;
+/// and W4 of each write that makes it.
 #[derive(Drop)]
 pub(super) struct Operations {
     pub(super) parts: Vec<Started>,

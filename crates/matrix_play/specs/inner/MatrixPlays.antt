@@ -1,6 +1,7 @@
--- A matrix while a term of it is played: what each step makes of it, of its operations and of their stamps. Only the player's loop goes
--- by this; what a report is, Listings says. This is this project's own.
-use Rattle.std.specs.Prelude.{◌≡◌, ℕ, ◌+◌, ◌*◌, ◌<◌, List, [], ◌∷◌, ◌++◌, length, replicate, slice_get, slice_set, slice_index_or, Option}
+-- A matrix while a term of it is played: what each step makes of it, of its operations and of their stamps. Only the
+-- player's loop goes by this; what a report is, Listings says. This is this project's own.
+use Rattle.std.specs.Prelude.{◌≡◌, ℕ, ◌+◌, ◌*◌, ◌<◌, List, [], ◌∷◌, ◌++◌, length, replicate, slice_get, slice_set}
+use Rattle.std.specs.Prelude.{slice_index_or, Option}
 use Rattle.std.specs.Prelude.{None, Some, IsSome, nat_eq, if◌then◌else◌}
 use Rattle.std.specs.List.{fold}
 use Rattle.std.specs.Option.{option_and_then}
@@ -111,12 +112,15 @@ module _ {R : Type 0} where
     pub stamps : length run.stamps ≡ length run.ops
     pub room : run.now < max_position
     pub count : (seat_of run who).begun < max_position
-    pub next : (line : Progress R) → slice_get run.matrix.lines who ≡ Some line → line.done ≡ 0 → IsSome (next_wish plans run who)
-    pub place : (line : Progress R) → slice_get run.matrix.lines who ≡ Some line → 0 < line.done → place_of run who < length run.ops
+    pub next : (line : Progress R) → slice_get run.matrix.lines who ≡ Some line → line.done ≡ 0 →
+        IsSome (next_wish plans run who)
+    pub place : (line : Progress R) → slice_get run.matrix.lines who ≡ Some line → 0 < line.done →
+        place_of run who < length run.ops
 
   -- the run of one term that begins at the position `at`, with its opening record
   abbrev pub matrix_play_of : ℕ → R → MatrixTerm R → MatrixPlaying R
-  matrix_play_of at opening term = fold (after_step term.plans) (opening_matrix_play (length term.plans) term.limit opening at) term.steps
+  matrix_play_of at opening term =
+      fold (after_step term.plans) (opening_matrix_play (length term.plans) term.limit opening at) term.steps
 
   abbrev pub next_opening : R → MatrixPlaying R → R
   next_opening opening run = (greatest_own (first_record opening) run.matrix.lines).item
@@ -139,4 +143,5 @@ module _ {R : Type 0} where
   abbrev pub terms_of : ℕ → List (MatrixTerm R) → List (MatrixPlaying R) → List Term
   terms_of place [] runs = []
   terms_of place (term ∷ terms) [] = []
-  terms_of place (term ∷ terms) (run ∷ runs) = record { first = place; limit = term.limit } ∷ terms_of (place + length run.ops) terms runs
+  terms_of place (term ∷ terms) (run ∷ runs) =
+      record { first = place; limit = term.limit } ∷ terms_of (place + length run.ops) terms runs

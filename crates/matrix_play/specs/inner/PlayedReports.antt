@@ -1,5 +1,5 @@
--- The report that the player makes of the runs of a schedule's terms. Only the player's private functions cite this, which is this
--- project's own; what is promised of a report stands in Listings.
+-- The report that the player makes of the runs of a schedule's terms. Only the player's private functions cite this,
+-- which is this project's own; what is promised of a report stands in Listings.
 use Rattle.std.specs.Prelude.{◌≡◌, ℕ, ◌+◌, List, [], ◌∷◌, ◌++◌, length, map}
 use Rattle.matrix_core.specs.declared.schedule.MatrixSchedule.{MatrixSchedule}
 use Rattle.matrix_core.specs.declared.schedule.MatrixReport.{MatrixReport}

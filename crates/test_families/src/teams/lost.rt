@@ -1,6 +1,6 @@
 //! What boards give of which a pass is lost.
 use super::{A, B, C, OPENING};
-use board_live::{BoardError, Posted, TagsEnded};
+use board_live::{BoardError, Posted, Refused};
 use board_teams::Team;
 use cell_contract::{Family, SoFar};
 use history_core::Band;
@@ -19,7 +19,7 @@ fn at(tag: u64, writer: usize, item: Band) -> Posted<Band> {
 }
 
 /// Whether the write got this stamp.
-fn got(answer: Result<Stamp, TagsEnded<Band>>, tag: u64, writer: usize) -> bool {
+fn got(answer: Result<Stamp, Refused<Band>>, tag: u64, writer: usize) -> bool {
     match answer {
         Ok(given) => given == stamp(tag, writer),
         Err(_) => false,

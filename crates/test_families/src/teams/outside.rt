@@ -38,7 +38,7 @@ pub fn told_from_outside<R: Threads + Sync, F: SharedFamily<Posted<Band>>>(
 ) -> Result<bool, AllocError>
 where
     F::Seat: Send,
-    F::Told: Send,
+    F::Receipt: Send,
 {
     let all = scripts(alloc, READ)?;
     let Ok(mut team) = Team::<F>::new(alloc, 2, 9, OPENING) else {

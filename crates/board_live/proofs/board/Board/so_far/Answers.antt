@@ -62,7 +62,7 @@ returns-clause-passes g c =
     let back = only_one c.pop-2.new.self.items pass.seat c.in-Some-pop.seat
     (sym (ap (λ z. z ++ pass.seat ∷ []) empty) ∙ sym c.push_reserved.ensures.items ∙ sym c.shown.ensures.seats.0
     ∙ c.in-Some-pop.ensures.items) in
-    let again : Pass g.row.V.Denot g.row.F.Denot g.row.F-Seat.Denot g.row.F-Told.Denot =
+    let again : Pass g.row.V.Denot g.row.F.Denot g.row.F-Seat.Denot g.row.F-Receipt.Denot =
     record pass { seat = c.in-Some-pop.seat; room = c.pop-2.new.self } in
     let is : c.push_reserved-2.new.self.items ≡ left ++ again ∷ [] =
     c.push_reserved-2.ensures.items ∙ ap (λ z. z ++ again ∷ []) c.shown.ensures.passes.0 in

@@ -1,0 +1,25 @@
+//! What is known of those that are left, where passes, lanes or logs were lost.
+ghost use Rattle.theorem_uses.specs.Lost.{BrokenBesideShow, LogsWithSomeShow, RunsBesideShow, SoundBesideShow};
+ghost use Rattle.theorem_uses.specs.Lost.{LogsOfAllShow, RunsBesideRise, WithoutLostShows, WritesRiseWithSome};
+
+use board_live::{Posted, RecordLaw};
+use cell_contract::Family;
+
+/// Of passes or lanes that are left, whoever was lost: stamps rise along intervals, each entry tells of one call, and
+/// the logs of all are theirs and empty ones.
+pub fn some_passes_show<V: RecordLaw, F: Family<Posted<V>>>()
+    ensures rises { WritesRiseWithSome ⟦<F as Family<Posted<V>>>⟧ }
+    ensures logs { LogsWithSomeShow ⟦<F as Family<Posted<V>>>⟧ }
+    ensures all { LogsOfAllShow V F F.Seat F.Receipt }
+{}
+
+/// Of logs that are left: where they are sound beside what is lost, what was seen of a task whose log is there stands
+/// in that log; else the first entry that breaks a rule is named. Those of a run tell of all calls of their processes,
+/// which have ended, and stamps rise along intervals.
+pub fn some_logs_show<V: Copy + Eq>()
+    ensures sound { SoundBesideShow V.eq }
+    ensures broken { BrokenBesideShow V.eq }
+    ensures runs { RunsBesideShow V }
+    ensures rise { RunsBesideRise V }
+    ensures rest { WithoutLostShows V }
+{}
