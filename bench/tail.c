@@ -3,7 +3,7 @@
  *
  * cc -std=gnu11 -O2 tail.c $(pkg-config --cflags --libs nidzaru) -pthread -o tail && ./tail WAY [SECONDS [BURNING]]
  *
- * WAY is four_slot, triple, mutex, inherit or seqlock. All threads run on the processors that it is given (taskset). */
+ * WAY is four_slot, triple, mutex, inherit or seqlock. In 120 seconds it wakes a million times, so that a hundred are above 99.99 %. All threads run on the processors that it is given (taskset). */
 #include <nidzaru.h>
 #include <pthread.h>
 #include <sched.h>

@@ -1,10 +1,14 @@
 /* Calls of a register or a board for worst.py, which sees each instruction and each access between two marks: a store to `begins`, by the kind
- * of the call, and one to `ends`. The states before a call are drawn, of many new registers or boards: all orders of a few calls come up, and
- * of a board also that each other place has written since. -DBYTES=24 [-DTRIPLE] [-DPLACES=4] */
+ * of the call, and one to `ends`. Of a register each call is made after each sequence of fewer than DEPTH calls, from a new one on. Of a board
+ * the states before a call are drawn, and beside them there is that each other place has written since.
+ * -DBYTES=24 [-DDEPTH=5] [-DTRIPLE] [-DPLACES=4] */
 #include <nidzaru.h>
 
 #ifndef PLACES
 #define PLACES 0
+#endif
+#ifndef DEPTH
+#define DEPTH 5
 #endif
 struct record { uint64_t words[BYTES / 8]; };
 
@@ -18,15 +22,15 @@ volatile uint64_t begins[8 * KINDS], ends;
         if (status_) return 1;          \
     } while (0)
 
+static _Alignas(64) struct record given, got;
+
+#if PLACES
 static uint64_t state = 88172645463325252u;
 static uint64_t below(uint64_t bound) {
     state ^= state << 13, state ^= state >> 7, state ^= state << 17;
     return state % bound;
 }
 
-static _Alignas(64) struct record given, got;
-
-#if PLACES
 #ifdef TRIPLE
 NIDZARU_TRIPLE_BOARD(cells, struct record);
 #else
@@ -65,9 +69,11 @@ NIDZARU_REGISTER(cells, struct record);
 static cells_writer writer;
 static cells_reader reader;
 
-static int call(void) {
+enum { CALLS = cells_is_triple ? KINDS : HOLD };
+
+static int call(int kind) {
     uint64_t number;
-    switch (below(cells_is_triple ? 5 : 3)) {
+    switch (kind) {
     case WRITE: MARKED(WRITE, cells_write(&writer, &given)); break;
     case READ: MARKED(READ, cells_read(&reader, &got, &number)); break;
     case LOOK: MARKED(LOOK, cells_look(&reader, &number)); break;
@@ -87,17 +93,25 @@ static int call(void) {
     return 0;
 }
 
-static int calls(void) {
+/* The calls whose kinds are the digits of a number. */
+static int calls(long sequence) {
     if (cells_make(&given, &writer, &reader)) return 1;
-    for (int turn = 0; turn < 16; turn++)
-        if (call()) return 1;
+    for (int turn = 0; turn < DEPTH; turn++, sequence /= CALLS)
+        if (call((int)(sequence % CALLS))) return 1;
     cells_end_writer(&writer), cells_end_reader(&reader);
     return 0;
 }
 #endif
 
 int main(void) {
-    for (int n = 0; n < (PLACES ? 4 : 48); n++)
+#if PLACES
+    for (int n = 0; n < 4; n++)
         if (calls()) return 1;
+#else
+    long sequences = 1;
+    for (int turn = 0; turn < DEPTH; turn++) sequences *= CALLS;
+    for (long n = 0; n < sequences; n++)
+        if (calls(n)) return 1;
+#endif
     return 0;
 }

@@ -1,4 +1,4 @@
-"""The most that a call takes over the states that worst.c draws: instructions, loads, stores, lines of the cache, and bytes of the stack.
+"""The most that a call takes over the states that worst.c makes: instructions, loads, stores, lines of the cache, and bytes of the stack.
 
     worst.py PREFIX [SIZE ..]      over the library that is installed there; it needs gcc and valgrind, whose lackey tells each access
 
@@ -54,8 +54,13 @@ def measure(program):
     return most, calls
 
 
+def depth_of(size):
+    """As many calls, one after the other, as each call of a register is tried in. (That of a large record takes millions of accesses.)"""
+    return 5 if size <= 4096 else 3
+
+
 def main(prefix, sizes):
-    kinds = [(f"{size:,}", "triple buffer" if triple else "four slots", [f"-DBYTES={size}"] + ["-DTRIPLE"] * triple)
+    kinds = [(f"{size:,}", "triple buffer" if triple else "four slots", [f"-DBYTES={size}", f"-DDEPTH={depth_of(size)}"] + ["-DTRIPLE"] * triple)
              for size in sizes or (24, 256, 4096) for triple in (False, True)]
     if not sizes:
         kinds += [(f"{size:,}, {places} places", "triple buffers" if triple else "four slots",

@@ -39,6 +39,10 @@
 extern "C"
 #endif
 void *memcpy(void *to, const void *from, size_t size);
+#ifdef __cplusplus
+extern "C"
+#endif
+void *memset(void *to, int value, size_t size);
 #endif
 
 /* The packages for pkg-config and CMake tell which machine their library is for. */
@@ -187,7 +191,7 @@ enum nidzaru_status {
     NIDZARU_NO_MEMORY = 1,  /* make: memory was refused */
     NIDZARU_IN_USE = 2,     /* make, a move: a handle that is to get a side has one already, or is to get two */
     NIDZARU_ENDED = 3,      /* the handle has no side: it was ended, or never made */
-    NIDZARU_WORN_OUT = 4,   /* write: all 2^64 - 1 numbers are used, or a board's tags have ended */
+    NIDZARU_REFUSED = 4,    /* write: the limit refuses it: the last number, 2^64 - 1, is used, or a board's tags have ended */
     NIDZARU_OTHER_SIDE = 5, /* the handle has another side, or a side of another cell or size */
     NIDZARU_NULL = 6,       /* a null pointer was passed */
     NIDZARU_COPIED = 7,     /* the handle isn't where its side was put: it was copied */
@@ -195,7 +199,8 @@ enum nidzaru_status {
     NIDZARU_LIMIT = 9,      /* make of a board: a limit is at least 1 and below 2^64 - 1 */
     NIDZARU_OLDER = 10,     /* read_since: the answer, which is given, has a smaller stamp */
     NIDZARU_NO_NEWS = 11,   /* news: no record is newer than the caller's */
-    NIDZARU_CUT_OFF = 12    /* the last call with this handle was cut off, by a kill, a cancel or a jump: the side is lost */
+    NIDZARU_CUT_OFF = 12,   /* the last call with this handle was cut off, by a kill, a cancel or a jump: the side is lost */
+    NIDZARU_WORN_OUT = NIDZARU_REFUSED /* its name before 2.1, until 3.0 */
 };
 
 /* What a status means, in a few words. */
@@ -205,7 +210,7 @@ NIDZARU_INLINE const char *nidzaru_status_text(int status) {
     case NIDZARU_NO_MEMORY: return "memory was refused";
     case NIDZARU_IN_USE: return "a handle that is to get a side has one already";
     case NIDZARU_ENDED: return "the handle has no side";
-    case NIDZARU_WORN_OUT: return "the numbers or tags are used up";
+    case NIDZARU_REFUSED: return "the limit refuses the write";
     case NIDZARU_OTHER_SIDE: return "the handle has another side, or a side of another cell or size";
     case NIDZARU_NULL: return "a null pointer was passed";
     case NIDZARU_COPIED: return "the handle was copied";
@@ -569,13 +574,14 @@ NIDZARU_CHECKED int nidzaru_move_handle(nidzaru_handle *to, nidzaru_handle *from
     return NIDZARU_DONE;
 }
 
-#define NIDZARU_FUNCTIONS(name, type, triple)                                                                          \
+/* What a register and a fan have alike: the types of their sides, what a reader does, and moves. */
+#define NIDZARU_SIDES(name, type, triple, is_a_fan)                                                                    \
     NIDZARU_ASSERT(NIDZARU_PLAIN(type), "a record of a register is neither const nor volatile");                       \
     NIDZARU_ASSERT(NIDZARU_COPIES(type), "a record of a register is trivially copyable");                              \
     NIDZARU_ASSERT(sizeof(type) <= 1048576, "a record of a register has at most 1048576 bytes");                       \
     /* (below stands this name alone: a type may be called as an argument is) */                                       \
     typedef type name##_record;                                                                                        \
-    enum { name##_is_triple = (triple) };                                                                              \
+    enum { name##_is_triple = (triple), name##_is_fan = (is_a_fan) };                                                  \
     typedef struct {                                                                                                   \
         nidzaru_handle handle;                                                                                         \
         char apart[NIDZARU_APART];                                                                                     \
@@ -584,31 +590,6 @@ NIDZARU_CHECKED int nidzaru_move_handle(nidzaru_handle *to, nidzaru_handle *from
         nidzaru_handle handle;                                                                                         \
         char apart[NIDZARU_APART];                                                                                     \
     } name##_reader;                                                                                                   \
-    /* Makes a register that holds `first` as number 0, and puts its sides into two empty handles. */                  \
-    NIDZARU_CHECKED int name##_make(const name##_record *first, name##_writer *writer, name##_reader *reader) {        \
-        if (!first || !writer || !reader) return NIDZARU_NULL;                                                         \
-        if (NIDZARU_PASSES(sizeof(name##_record), NIDZARU_ALIGNMENT(name##_record))) {                                 \
-            return nidzaru_sized_make(triple, sizeof(name##_record), NIDZARU_TO(const void *, first), &writer->handle, \
-                                      &reader->handle);                                                                \
-        } else {                                                                                                       \
-            uint64_t words[NIDZARU_SIZE(sizeof(name##_record)) / 8] = {0};                                             \
-            nidzaru_copy(words, NIDZARU_TO(const void *, first), sizeof(name##_record));                               \
-            return nidzaru_sized_make(triple, sizeof words, words, &writer->handle, &reader->handle);                  \
-        }                                                                                                              \
-    }                                                                                                                  \
-    /* Shows the record to the reader, under the next number. What this thread did before comes before what the        \
-     * reading thread does once it has read this number, or a greater one. */                                          \
-    NIDZARU_CHECKED int name##_write(name##_writer *writer, const name##_record *item) {                               \
-        if (!writer || !item) return NIDZARU_NULL;                                                                     \
-        if (nidzaru_is_copied(&writer->handle)) return NIDZARU_COPIED;                                                 \
-        if (NIDZARU_PASSES(sizeof(name##_record), NIDZARU_ALIGNMENT(name##_record))) {                                 \
-            return nidzaru_sized_write(triple, sizeof(name##_record), &writer->handle, NIDZARU_TO(const void *, item)); \
-        } else {                                                                                                       \
-            uint64_t words[NIDZARU_SIZE(sizeof(name##_record)) / 8] = {0};                                             \
-            nidzaru_copy(words, NIDZARU_TO(const void *, item), sizeof(name##_record));                                \
-            return nidzaru_sized_write(triple, sizeof words, &writer->handle, words);                                  \
-        }                                                                                                              \
-    }                                                                                                                  \
     /* Gives one whole record, and then its number, which is not below that of any read or look before. */             \
     NIDZARU_CHECKED int name##_read(name##_reader *reader, name##_record *item, uint64_t *number) {                    \
         if (!reader || !item || !number) return NIDZARU_NULL;                                                          \
@@ -655,17 +636,45 @@ NIDZARU_CHECKED int nidzaru_move_handle(nidzaru_handle *to, nidzaru_handle *from
     NIDZARU_CHECKED int name##_move_reader(name##_reader *to, name##_reader *from) {                                   \
         return to && from ? nidzaru_move_handle(&to->handle, &from->handle) : NIDZARU_NULL;                            \
     }                                                                                                                  \
-    /* Ends the writing side. The reader keeps the last record; the second end of the two frees the register. */       \
-    NIDZARU_INLINE int name##_end_writer(name##_writer *writer) {                                                      \
-        if (!writer) return NIDZARU_NULL;                                                                              \
-        if (nidzaru_is_copied(&writer->handle)) return NIDZARU_COPIED;                                                 \
-        return nidzaru_sized_end_writer(triple, NIDZARU_SIZE(sizeof(name##_record)), &writer->handle);                 \
-    }                                                                                                                  \
     /* Ends the reading side. Writes go on; the second end of the two frees the register. */                           \
     NIDZARU_INLINE int name##_end_reader(name##_reader *reader) {                                                      \
         if (!reader) return NIDZARU_NULL;                                                                              \
         if (nidzaru_is_copied(&reader->handle)) return NIDZARU_COPIED;                                                 \
         return nidzaru_sized_end_reader(triple, NIDZARU_SIZE(sizeof(name##_record)), &reader->handle);                 \
+    }
+
+#define NIDZARU_FUNCTIONS(name, type, triple)                                                                          \
+    NIDZARU_SIDES(name, type, triple, 0)                                                                               \
+    /* Makes a register that holds `first` as number 0, and puts its sides into two empty handles. */                  \
+    NIDZARU_CHECKED int name##_make(const name##_record *first, name##_writer *writer, name##_reader *reader) {        \
+        if (!first || !writer || !reader) return NIDZARU_NULL;                                                         \
+        if (NIDZARU_PASSES(sizeof(name##_record), NIDZARU_ALIGNMENT(name##_record))) {                                 \
+            return nidzaru_sized_make(triple, sizeof(name##_record), NIDZARU_TO(const void *, first), &writer->handle, \
+                                      &reader->handle);                                                                \
+        } else {                                                                                                       \
+            uint64_t words[NIDZARU_SIZE(sizeof(name##_record)) / 8] = {0};                                             \
+            nidzaru_copy(words, NIDZARU_TO(const void *, first), sizeof(name##_record));                               \
+            return nidzaru_sized_make(triple, sizeof words, words, &writer->handle, &reader->handle);                  \
+        }                                                                                                              \
+    }                                                                                                                  \
+    /* Shows the record to the reader, under the next number. What this thread did before comes before what the        \
+     * reading thread does once it has read this number, or a greater one. */                                          \
+    NIDZARU_CHECKED int name##_write(name##_writer *writer, const name##_record *item) {                               \
+        if (!writer || !item) return NIDZARU_NULL;                                                                     \
+        if (nidzaru_is_copied(&writer->handle)) return NIDZARU_COPIED;                                                 \
+        if (NIDZARU_PASSES(sizeof(name##_record), NIDZARU_ALIGNMENT(name##_record))) {                                 \
+            return nidzaru_sized_write(triple, sizeof(name##_record), &writer->handle, NIDZARU_TO(const void *, item)); \
+        } else {                                                                                                       \
+            uint64_t words[NIDZARU_SIZE(sizeof(name##_record)) / 8] = {0};                                             \
+            nidzaru_copy(words, NIDZARU_TO(const void *, item), sizeof(name##_record));                                \
+            return nidzaru_sized_write(triple, sizeof words, &writer->handle, words);                                  \
+        }                                                                                                              \
+    }                                                                                                                  \
+    /* Ends the writing side. The reader keeps the last record; the second end of the two frees the register. */       \
+    NIDZARU_INLINE int name##_end_writer(name##_writer *writer) {                                                      \
+        if (!writer) return NIDZARU_NULL;                                                                              \
+        if (nidzaru_is_copied(&writer->handle)) return NIDZARU_COPIED;                                                 \
+        return nidzaru_sized_end_writer(triple, NIDZARU_SIZE(sizeof(name##_record)), &writer->handle);                 \
     }                                                                                                                  \
     NIDZARU_ASSERT(1, "takes a semicolon")
 
@@ -720,6 +729,7 @@ NIDZARU_CHECKED int nidzaru_move_handle(nidzaru_handle *to, nidzaru_handle *from
  * without a loan shows that older record again. Over four-slot cells both answer NIDZARU_OTHER_SIDE. */
 #define NIDZARU_LOAN(name)                                                                                             \
     NIDZARU_ASSERT(NIDZARU_ALIGNMENT(name##_record) <= 8, "a record that is filled where it lies is aligned to at most 8"); \
+    NIDZARU_ASSERT(!name##_is_fan, "the records of a fan are written by a copy");                                      \
     NIDZARU_CHECKED int name##_loan(name##_writer *writer, name##_record **at) {                                       \
         void *lent = NIDZARU_NOWHERE;                                                                                  \
         int status;                                                                                                    \
@@ -730,13 +740,170 @@ NIDZARU_CHECKED int nidzaru_move_handle(nidzaru_handle *to, nidzaru_handle *from
         return status;                                                                                                 \
     }                                                                                                                  \
     /* What this thread did before comes before what the reading thread does once it has read this number, or a        \
-     * greater one. NIDZARU_WORN_OUT where all numbers are used. */                                                    \
+     * greater one. NIDZARU_REFUSED where all numbers are used. */                                                     \
     NIDZARU_CHECKED int name##_publish(name##_writer *writer) {                                                        \
         if (!writer) return NIDZARU_NULL;                                                                              \
         if (nidzaru_is_copied(&writer->handle)) return NIDZARU_COPIED;                                                 \
         return nidzaru_sized_publish(NIDZARU_SIZE(sizeof(name##_record)), &writer->handle);                            \
     }                                                                                                                  \
     NIDZARU_ASSERT(1, "takes a semicolon")
+
+/* Fans: one writer and several readers, of which each has a register of its own. A write puts the record into each of these registers, under
+ * one number.
+ *
+ *   NIDZARU_FAN(limits, struct limits, 3);             typed functions for the program's own struct, and three readers
+ *
+ *   limits_writer writer = NIDZARU_EMPTY;
+ *   limits_reader readers[limits_readers] = {NIDZARU_EMPTY, NIDZARU_EMPTY, NIDZARU_EMPTY};
+ *   limits_make(&opening, &writer, &readers)           a fan that holds `opening`, as its writer's side and one for each reader
+ *   limits_write(&writer, &item)                       shows the record to the readers, to the first one first
+ *   limits_read(&readers[1], &item, &number), ..       all that a register's reader does, over triple buffers a hold too
+ *   limits_end_writer(&writer), limits_end_reader(&readers[1])   in any order, each from its own thread
+ *
+ * To each reader a fan is a register of its own: it waits for nobody, no number falls, one number is one record, and that record is the same
+ * to all readers. **Between readers there is no order**: while a write runs, one reader may have the new record and tell another one, which
+ * then still reads the one before. Where that matters, a board is to be taken: its `read_since` gives what the other one had, or says that it
+ * doesn't. A write takes as long as a register's write for each reader, also for those that have ended. NIDZARU_FAN takes four-slot cells,
+ * NIDZARU_TRIPLE_FAN triple buffers; a fan has no `loan`.
+ *
+ * With any status but 0 a write has shown nothing; but with NIDZARU_CUT_OFF the last write may have come to some readers alone. From then on no
+ * reader gets another record. */
+
+/* What `live` is where a handle has a fan's writing side. The library has no side of this number. */
+#define NIDZARU_FAN_SIDE 254
+
+/* A fan's writing side: the block that it lies in, and, right behind this, the writing sides of so many registers. */
+typedef struct {
+    void *block;
+    size_t count;
+} nidzaru_fan;
+
+NIDZARU_INLINE nidzaru_handle *nidzaru_fan_writers(nidzaru_fan *fan) { return NIDZARU_TO(nidzaru_handle *, NIDZARU_TO(void *, fan + 1)); }
+
+/* How many bytes the block of a fan's writing side has: whole lines of the cache. */
+#define NIDZARU_FAN_BYTES(count) ((sizeof(nidzaru_fan) + (count) * sizeof(nidzaru_handle) + 63) / 64 * 64 + 64)
+
+NIDZARU_INLINE nidzaru_fan *nidzaru_new_fan(size_t count) {
+    char *block = NIDZARU_TO(char *, nidzaru_allocate(NIDZARU_FAN_BYTES(count)));
+    nidzaru_fan *fan;
+    uintptr_t at;
+    if (!block) return NIDZARU_NOWHERE;
+    memcpy(&at, &block, sizeof at);
+    fan = NIDZARU_TO(nidzaru_fan *, NIDZARU_TO(void *, block + (64 - at % 64)));
+    memset(fan, 0, sizeof *fan + count * sizeof(nidzaru_handle));
+    fan->block = block;
+    fan->count = count;
+    return fan;
+}
+
+/* Ends the first so many writing sides, and gives the block back. */
+NIDZARU_INLINE void nidzaru_drop_fan(int triple, size_t size, nidzaru_fan *fan, size_t count) {
+    size_t k;
+    for (k = 0; k < count; k++) nidzaru_sized_end_writer(triple, size, &nidzaru_fan_writers(fan)[k]);
+    nidzaru_release(fan->block);
+}
+
+NIDZARU_CHECKED int nidzaru_fan_make(int triple, size_t size, const void *first, nidzaru_handle *w, nidzaru_handle *const *readers,
+                                     size_t count) {
+    nidzaru_fan *fan;
+    size_t made, k;
+    if (w->side.live) return NIDZARU_IN_USE;
+    for (k = 0; k < count; k++)
+        if (readers[k] == w) return NIDZARU_IN_USE;
+    fan = nidzaru_new_fan(count);
+    if (!fan) return NIDZARU_NO_MEMORY;
+    for (made = 0; made < count; made++) {
+        int status = nidzaru_sized_make(triple, size, first, &nidzaru_fan_writers(fan)[made], readers[made]);
+        if (!status) continue;
+        for (k = 0; k < made; k++) nidzaru_sized_end_reader(triple, size, readers[k]);
+        nidzaru_drop_fan(triple, size, fan, made);
+        return status;
+    }
+    w->side.live = NIDZARU_FAN_SIDE;
+    w->side.at = fan;
+    w->home = w;
+    w->order = NIDZARU_NOWHERE;
+    return NIDZARU_DONE;
+}
+
+/* Marks the handle of a fan's writing side before a call on its registers, and after it. It stays marked where the call is cut off. */
+NIDZARU_INLINE void nidzaru_fan_mark(nidzaru_handle *w, uint64_t live) {
+    volatile uint64_t *mark = &w->side.live;
+    *mark = live;
+}
+
+NIDZARU_CHECKED int nidzaru_fan_begin(nidzaru_handle *w) {
+    const uint64_t live = w->side.live;
+    if (live != NIDZARU_FAN_SIDE) return !live ? NIDZARU_ENDED : live == NIDZARU_BUSY ? NIDZARU_CUT_OFF : NIDZARU_OTHER_SIDE;
+    nidzaru_fan_mark(w, NIDZARU_BUSY);
+    return NIDZARU_DONE;
+}
+
+/* If a register refuses the record and one before it has it, the readers' numbers aren't alike any more: the side is lost. */
+NIDZARU_CHECKED int nidzaru_fan_write(int triple, size_t size, nidzaru_handle *w, const void *item) {
+    nidzaru_fan *const fan = NIDZARU_TO(nidzaru_fan *, w->side.at);
+    int status = nidzaru_fan_begin(w);
+    size_t k;
+    if (status) return status;
+    for (k = 0; k < fan->count && !status; k++) status = nidzaru_sized_write(triple, size, &nidzaru_fan_writers(fan)[k], item);
+    if (status && k > 1) return NIDZARU_CUT_OFF;
+    nidzaru_fan_mark(w, NIDZARU_FAN_SIDE);
+    return status;
+}
+
+NIDZARU_INLINE int nidzaru_fan_end(int triple, size_t size, nidzaru_handle *w) {
+    nidzaru_fan *const fan = NIDZARU_TO(nidzaru_fan *, w->side.at);
+    const int status = nidzaru_fan_begin(w);
+    if (status) return status;
+    nidzaru_drop_fan(triple, size, fan, fan->count);
+    w->side.at = NIDZARU_NOWHERE;
+    nidzaru_fan_mark(w, 0);
+    return NIDZARU_DONE;
+}
+
+#define NIDZARU_FAN_FUNCTIONS(name, type, readers_of, triple)                                                          \
+    NIDZARU_SIDES(name, type, triple, 1)                                                                               \
+    NIDZARU_ASSERT((readers_of) >= 1, "a fan has at least one reader");                                                \
+    enum { name##_readers = (readers_of) };                                                                            \
+    /* Makes a fan that holds `first` as number 0, and puts its sides into empty handles, of which none is there twice. */ \
+    NIDZARU_CHECKED int name##_make(const name##_record *first, name##_writer *fan, name##_reader (*readers)[readers_of]) { \
+        nidzaru_handle *handles[readers_of];                                                                           \
+        size_t k;                                                                                                      \
+        if (!first || !fan || !readers) return NIDZARU_NULL;                                                           \
+        for (k = 0; k < (readers_of); k++) handles[k] = &(*readers)[k].handle;                                         \
+        if (NIDZARU_PASSES(sizeof(name##_record), NIDZARU_ALIGNMENT(name##_record))) {                                 \
+            return nidzaru_fan_make(triple, sizeof(name##_record), NIDZARU_TO(const void *, first), &fan->handle, handles, readers_of); \
+        } else {                                                                                                       \
+            uint64_t words[NIDZARU_SIZE(sizeof(name##_record)) / 8] = {0};                                             \
+            nidzaru_copy(words, NIDZARU_TO(const void *, first), sizeof(name##_record));                               \
+            return nidzaru_fan_make(triple, sizeof words, words, &fan->handle, handles, readers_of);                   \
+        }                                                                                                              \
+    }                                                                                                                  \
+    /* Shows the record to each reader, under the next number. What this thread did before comes before what a reading \
+     * thread does once it has read this number, or a greater one. */                                                  \
+    NIDZARU_CHECKED int name##_write(name##_writer *fan, const name##_record *item) {                                  \
+        if (!fan || !item) return NIDZARU_NULL;                                                                        \
+        if (nidzaru_is_copied(&fan->handle)) return NIDZARU_COPIED;                                                    \
+        if (NIDZARU_PASSES(sizeof(name##_record), NIDZARU_ALIGNMENT(name##_record))) {                                 \
+            return nidzaru_fan_write(triple, sizeof(name##_record), &fan->handle, NIDZARU_TO(const void *, item));     \
+        } else {                                                                                                       \
+            uint64_t words[NIDZARU_SIZE(sizeof(name##_record)) / 8] = {0};                                             \
+            nidzaru_copy(words, NIDZARU_TO(const void *, item), sizeof(name##_record));                                \
+            return nidzaru_fan_write(triple, sizeof words, &fan->handle, words);                                       \
+        }                                                                                                              \
+    }                                                                                                                  \
+    /* Ends the writing side. Each reader keeps the last record; the last end of all frees the fan. */                 \
+    NIDZARU_INLINE int name##_end_writer(name##_writer *fan) {                                                         \
+        if (!fan) return NIDZARU_NULL;                                                                                 \
+        if (nidzaru_is_copied(&fan->handle)) return NIDZARU_COPIED;                                                    \
+        return nidzaru_fan_end(triple, NIDZARU_SIZE(sizeof(name##_record)), &fan->handle);                             \
+    }                                                                                                                  \
+    NIDZARU_ASSERT(1, "takes a semicolon")
+
+/* The types NAME_writer and NAME_reader, the number NAME_readers and the functions NAME_make, NAME_write, NAME_read, NAME_look, NAME_news,
+ * NAME_latest, NAME_move_writer, NAME_move_reader, NAME_end_writer and NAME_end_reader, for records of this type and so many readers. */
+#define NIDZARU_FAN(name, type, readers_of) NIDZARU_FAN_FUNCTIONS(name, type, readers_of, 0)
+#define NIDZARU_TRIPLE_FAN(name, type, readers_of) NIDZARU_FAN_FUNCTIONS(name, type, readers_of, 1)
 
 /* Boards: one record that 2 to 16 threads share. Each has a place, by which it writes and reads.
  *
@@ -755,7 +922,7 @@ NIDZARU_CHECKED int nidzaru_move_handle(nidzaru_handle *to, nidzaru_handle *from
  * what it wrote or read before. A place goes to the struct of its thread by `plans_move`. NIDZARU_BOARD takes four-slot cells,
  * NIDZARU_TRIPLE_BOARD triple buffers.
  *
- * With NIDZARU_WORN_OUT, NIDZARU_OLDER and NIDZARU_NO_NEWS the place has made a call of its board all the same. With any other
+ * With NIDZARU_REFUSED, NIDZARU_OLDER and NIDZARU_NO_NEWS the place has made a call of its board all the same. With any other
  * status but 0 nothing has changed. */
 typedef struct {
     uint64_t tag, writer;

@@ -10,6 +10,9 @@
 //   reader.hold()                                                where one whole record lies, over a triple buffer
 //   reader.hold_news()                                           the same, if it is another one than the last
 //
+//   auto [sensor, readers] = nidzaru::make_fan<3>(limits{0.0, 9.5})   one writer, and an array of three readers
+//   sensor.write(item)                                           puts the record into each reader's register, under one number
+//
 //   auto places = nidzaru::make_board<3>(plan{})                 the three places of a board that holds this plan
 //   places[0].write(item, stamp)                                 puts the record there, and gives its stamp
 //   places[1].read(item, stamp), places[1].latest()              one whole record, and its stamp
@@ -50,7 +53,15 @@ template <class T, cell C = cell::four_slot> using sides = std::pair<writer<T, C
 
 template <class T, cell C> [[nodiscard]] std::optional<sides<T, C>> try_make(const T &first) noexcept;
 
+template <class T, cell C> class fan_writer;
+template <class T, std::size_t N, cell C = cell::four_slot> using fan = std::pair<fan_writer<T, C>, std::array<reader<T, C>, N>>;
+
 namespace detail {
+
+// Makes a fan as its sides, and gives the status.
+struct fan_making {
+    template <class T, std::size_t N, cell C> static int make(const T &first, fan<T, N, C> &made) noexcept;
+};
 
 // How a `T` lies in a record of the library, of this size.
 template <class T, cell C, std::size_t bytes = NIDZARU_SIZE(sizeof(T))> struct record {
@@ -233,6 +244,7 @@ template <class T, cell C = cell::four_slot> class reader : detail::side {
     template <class U, cell D> friend std::optional<sides<U, D>> try_make(const U &first) noexcept;
 
   private:
+    friend struct detail::fan_making;
     std::uint64_t last = 0;
     [[maybe_unused]] detail::distance distance = {};
 };
@@ -271,6 +283,76 @@ template <class T> [[nodiscard]] std::optional<sides<T>> try_make(const T &first
 }
 template <class T> [[nodiscard]] std::optional<sides<T, cell::triple>> try_make_triple(const T &first) noexcept {
     return nidzaru::try_make<T, cell::triple>(first);
+}
+
+// The right to write to several readers, to each in a register of its own: one thread uses it at a time. Between readers there is no order:
+// while a write runs, one may have the record and another one not yet. A place at a board knows such an order.
+template <class T, cell C = cell::four_slot> class fan_writer : detail::side {
+    using record = detail::record<T, C>;
+    static_assert(record::size > 0, "the library has records of this size");
+
+  public:
+    fan_writer() = default;
+    fan_writer(fan_writer &&) = default;
+    using detail::side::operator bool;
+    fan_writer &operator=(fan_writer &&from) noexcept {
+        if (this != std::addressof(from)) {
+            end();
+            take(from);
+        }
+        return *this;
+    }
+    ~fan_writer() { end(); }
+
+    // Shows the record to each reader, under the next number. What this thread did before comes before what a reading thread does once it
+    // has read this number, or a greater one.
+    [[nodiscard]] int write(const T &item) noexcept {
+        if constexpr (record::passes) {
+            return nidzaru_fan_write(record::triple, record::size, &handle, std::addressof(item));
+        } else {
+            record copy(item);
+            return nidzaru_fan_write(record::triple, record::size, &handle, copy.words);
+        }
+    }
+
+    // Ends the side before the object goes. Each reader keeps the last record.
+    int end() noexcept { return nidzaru_fan_end(record::triple, record::size, &handle); }
+
+  private:
+    friend struct detail::fan_making;
+    [[maybe_unused]] detail::distance distance = {};
+};
+
+template <class T, std::size_t N, cell C> int detail::fan_making::make(const T &first, fan<T, N, C> &made) noexcept {
+    static_assert(N >= 1, "a fan has at least one reader");
+    using record = detail::record<T, C>;
+    nidzaru_handle *handles[N] = {};
+    for (std::size_t i = 0; i < N; i++) handles[i] = &made.second[i].handle;
+    if constexpr (record::passes) {
+        return nidzaru_fan_make(record::triple, record::size, std::addressof(first), &made.first.handle, handles, N);
+    } else {
+        record copy(first);
+        return nidzaru_fan_make(record::triple, record::size, copy.words, &made.first.handle, handles, N);
+    }
+}
+
+// The writer and the N readers of a new fan that holds `first` as number 0. Nothing where memory is refused.
+template <std::size_t N, cell C = cell::four_slot, class T>
+[[nodiscard]] std::optional<fan<T, N, C>> try_make_fan(const T &first) noexcept {
+    std::optional<fan<T, N, C>> made(std::in_place);
+    if (detail::fan_making::make<T, N, C>(first, *made)) return std::nullopt;
+    return made;
+}
+
+// The same, and std::bad_alloc is thrown where memory is refused.
+template <std::size_t N, cell C = cell::four_slot, class T> [[nodiscard]] fan<T, N, C> make_fan([[maybe_unused]] const T &first) {
+#ifdef __cpp_exceptions
+    fan<T, N, C> made;
+    if (detail::fan_making::make<T, N, C>(first, made)) throw std::bad_alloc();
+    return made;
+#else
+    static_assert(detail::never<T>, "make_fan throws where memory is refused: without exceptions there is try_make_fan");
+#endif
 }
 
 // The stamp of a record of a board: one stamp is one record, and the opening has 0.0.

@@ -28,7 +28,9 @@
  *
  * A record is [number, hash]. The number stands in the data; no two writes have the same, and none has the opening's. The hash is of
  * all bytes, so data of two writes that were mixed show as a record that nobody wrote (unless two hashes are equal by chance). Bytes
- * between the members of a struct count as well: set them to zero, or pass data that has none.
+ * between the members of a struct count as well: set them to zero, or pass data that has none. The first NIDZARU_LOG_WORDS words of 8
+ * bytes, 8 if nothing else is defined, are kept too, and written as "words" beside the record: they tell of which writes a torn record is,
+ * which tools/convert/explain.py says. No judge looks at them. With 0 none is kept, and a log takes less memory.
  *
  * Several processes write their lines alone, with the clock's own times, and one of them a header; threads of all have different numbers.
  * `cat` joins them: `nidzaru_log_header(stdout, opening, 0)`, `nidzaru_log_lines(stdout, logs, 2)`. The counter and CLOCK_MONOTONIC are the
@@ -88,6 +90,9 @@
 #ifndef NIDZARU_LOG_CLOCK
 #define NIDZARU_LOG_CLOCK CLOCK_MONOTONIC
 #endif
+#ifndef NIDZARU_LOG_WORDS
+#define NIDZARU_LOG_WORDS 8
+#endif
 
 /* Logs in files need POSIX: with -std=c11 compile with -D_POSIX_C_SOURCE=200112L. */
 #if defined(_POSIX_C_SOURCE) && _POSIX_C_SOURCE >= 200112L
@@ -132,6 +137,9 @@ enum { NIDZARU_LOG_NOTHING, NIDZARU_LOG_WRITE, NIDZARU_LOG_READ, NIDZARU_LOG_REF
 
 typedef struct {
     uint64_t number, hash;
+#if NIDZARU_LOG_WORDS
+    uint64_t kept, words[NIDZARU_LOG_WORDS]; /* the first words, and how many there are */
+#endif
 } nidzaru_log_record;
 
 typedef struct {
@@ -144,9 +152,10 @@ typedef struct {
 typedef struct {
     char magic[8];
     uint64_t who, room, count, lost, unpaired, refused;
-    uint64_t turn;                   /* how many operations ended, or NIDZARU_LOG_LEFT; other threads load it */
+    uint64_t turn;  /* how many operations ended, or NIDZARU_LOG_LEFT; other threads load it */
+    uint64_t words; /* NIDZARU_LOG_WORDS, on which the size of an operation depends */
+    uint64_t place, apart[6];
     nidzaru_log_operation under_way; /* `end` isn't known yet; NIDZARU_LOG_NOTHING where none is */
-    uint64_t place, apart[2];
 } nidzaru_log_state;
 
 /* The log of one thread. Its members are the recorder's own. */
@@ -161,7 +170,7 @@ typedef struct nidzaru_log {
     char apart[64]; /* logs that lie side by side share no cache line that their threads store to */
 } nidzaru_log;
 
-#define NIDZARU_LOG_MAGIC "nidzaru\1"
+#define NIDZARU_LOG_MAGIC "nidzaru\2"
 #define NIDZARU_LOG_LEFT UINT64_MAX
 
 /* The size of a state and so many operations, or 0 if no size can say it. */
@@ -182,6 +191,7 @@ NIDZARU_LOG_INLINE void nidzaru_log_begin_block(nidzaru_log *log, void *block, s
     memset(log->state, 0, sizeof *log->state);
     log->state->who = who;
     log->state->room = room;
+    log->state->words = NIDZARU_LOG_WORDS;
     memcpy(log->state->magic, NIDZARU_LOG_MAGIC, sizeof log->state->magic);
 }
 
@@ -220,18 +230,29 @@ NIDZARU_LOG_CHECKED int nidzaru_log_open_file(nidzaru_log *log, uint64_t who, si
     return 0;
 }
 
+/* Whether a record has no more words than there is room for. */
+NIDZARU_LOG_INLINE int nidzaru_log_is_record(const nidzaru_log_record *it) {
+#if NIDZARU_LOG_WORDS
+    return it->kept <= NIDZARU_LOG_WORDS;
+#else
+    return it != NULL;
+#endif
+}
+
 /* Whether a block of this size is a log. */
 NIDZARU_LOG_INLINE int nidzaru_log_is_whole(const nidzaru_log *log, size_t size) {
     const nidzaru_log_state *it = log->state;
-    if (memcmp(it->magic, NIDZARU_LOG_MAGIC, sizeof it->magic) || nidzaru_log_size(it->room) != size || it->count > it->room) return 0;
+    if (memcmp(it->magic, NIDZARU_LOG_MAGIC, sizeof it->magic) || it->words != NIDZARU_LOG_WORDS) return 0;
+    if (nidzaru_log_size(it->room) != size || it->count > it->room || !nidzaru_log_is_record(&it->under_way.record)) return 0;
     for (uint64_t at = 0; at < it->count; at++) {
         const nidzaru_log_operation *one = &log->operations[at];
         if (one->kind < NIDZARU_LOG_WRITE || one->kind > NIDZARU_LOG_REFUSED || one->begin > one->end) return 0;
+        if (!nidzaru_log_is_record(&one->record)) return 0;
     }
     return 1;
 }
 
-/* Opens what a program left in a file, to be merged. */
+/* Opens what a program left in a file, to be merged. Its NIDZARU_LOG_WORDS has to be the same. */
 NIDZARU_LOG_CHECKED int nidzaru_log_open_left(nidzaru_log *log, const char *path) {
     int file = open(path, O_RDONLY);
     off_t end = file < 0 ? 0 : lseek(file, 0, SEEK_END);
@@ -264,6 +285,7 @@ NIDZARU_LOG_INLINE int nidzaru_log_is_full(const nidzaru_log *log) { return log-
 NIDZARU_LOG_INLINE nidzaru_log_record nidzaru_log_record_of(uint64_t number, const void *data, size_t size) {
     const unsigned char *bytes = NIDZARU_LOG_CAST(const unsigned char *, data);
     nidzaru_log_record record;
+    memset(&record, 0, sizeof record);
     record.number = number;
     record.hash = 0x9e3779b97f4a7c15u ^ size;
     for (size_t at = 0; at < size; at += 8) {
@@ -271,6 +293,9 @@ NIDZARU_LOG_INLINE nidzaru_log_record nidzaru_log_record_of(uint64_t number, con
         memcpy(&word, bytes + at, size - at < 8 ? size - at : 8);
         record.hash = (record.hash ^ word) * 0xff51afd7ed558ccdu;
         record.hash ^= record.hash >> 32;
+#if NIDZARU_LOG_WORDS
+        if (record.kept < NIDZARU_LOG_WORDS) record.words[record.kept++] = word;
+#endif
     }
     return record;
 }
@@ -382,11 +407,10 @@ NIDZARU_LOG_INLINE void nidzaru_log_keep_pace(nidzaru_log *log) {
 }
 
 /* The kind is stored behind all else, so that a thread that is killed leaves a whole operation or none. */
-NIDZARU_LOG_INLINE void nidzaru_log_begin(nidzaru_log *log, uint64_t kind, nidzaru_log_record record) {
+NIDZARU_LOG_INLINE void nidzaru_log_begin(nidzaru_log *log, uint64_t kind) {
     nidzaru_log_state *it = log->state;
     nidzaru_log_keep_pace(log);
     it->unpaired += it->under_way.kind != NIDZARU_LOG_NOTHING;
-    it->under_way.record = record;
     it->place = it->count;
     it->under_way.begin = nidzaru_log_stamp_begin(log);
     __atomic_store_n(&it->under_way.kind, kind, __ATOMIC_RELEASE);
@@ -400,7 +424,8 @@ NIDZARU_LOG_INLINE void nidzaru_log_rest(nidzaru_log *log) {
 }
 
 /* The count is stored behind the operation, and before nothing is under way. */
-NIDZARU_LOG_INLINE void nidzaru_log_end(nidzaru_log *log, uint64_t began_as, uint64_t kind, uint64_t end, nidzaru_log_record record) {
+NIDZARU_LOG_INLINE void nidzaru_log_end(nidzaru_log *log, uint64_t began_as, uint64_t kind, uint64_t end,
+                                        const nidzaru_log_record *record) {
     nidzaru_log_state *it = log->state;
     it->unpaired += it->under_way.kind != began_as;
     it->refused += kind == NIDZARU_LOG_REFUSED;
@@ -412,7 +437,7 @@ NIDZARU_LOG_INLINE void nidzaru_log_end(nidzaru_log *log, uint64_t began_as, uin
         next->kind = kind;
         next->begin = it->under_way.begin;
         next->end = end;
-        next->record = record;
+        next->record = *record;
         __atomic_store_n(&it->count, it->count + 1, __ATOMIC_RELEASE);
     }
     nidzaru_log_rest(log);
@@ -420,19 +445,21 @@ NIDZARU_LOG_INLINE void nidzaru_log_end(nidzaru_log *log, uint64_t began_as, uin
 
 /* Before a write of these data. */
 NIDZARU_LOG_INLINE void nidzaru_log_begin_write(nidzaru_log *log, uint64_t number, const void *data, size_t size) {
-    nidzaru_log_begin(log, NIDZARU_LOG_WRITE, nidzaru_log_record_of(number, data, size));
+    log->state->under_way.record = nidzaru_log_record_of(number, data, size);
+    nidzaru_log_begin(log, NIDZARU_LOG_WRITE);
 }
 
 /* After a write that took effect. */
 NIDZARU_LOG_INLINE void nidzaru_log_end_write(nidzaru_log *log) {
     uint64_t end = nidzaru_log_stamp_end();
-    nidzaru_log_end(log, NIDZARU_LOG_WRITE, NIDZARU_LOG_WRITE, end, log->state->under_way.record);
+    nidzaru_log_end(log, NIDZARU_LOG_WRITE, NIDZARU_LOG_WRITE, end, &log->state->under_way.record);
 }
 
 /* After a write that was refused, with the data that it saw last. */
 NIDZARU_LOG_INLINE void nidzaru_log_end_refused(nidzaru_log *log, uint64_t number, const void *data, size_t size) {
     uint64_t end = nidzaru_log_stamp_end();
-    nidzaru_log_end(log, NIDZARU_LOG_WRITE, NIDZARU_LOG_REFUSED, end, nidzaru_log_record_of(number, data, size));
+    nidzaru_log_record saw = nidzaru_log_record_of(number, data, size);
+    nidzaru_log_end(log, NIDZARU_LOG_WRITE, NIDZARU_LOG_REFUSED, end, &saw);
 }
 
 /* After a write that did nothing, such as a push onto a full queue or a compare-and-set that failed. It is left out of the log. */
@@ -442,15 +469,13 @@ NIDZARU_LOG_INLINE void nidzaru_log_end_no_effect(nidzaru_log *log) {
 }
 
 /* Before a read. */
-NIDZARU_LOG_INLINE void nidzaru_log_begin_read(nidzaru_log *log) {
-    nidzaru_log_record none = {0, 0};
-    nidzaru_log_begin(log, NIDZARU_LOG_READ, none);
-}
+NIDZARU_LOG_INLINE void nidzaru_log_begin_read(nidzaru_log *log) { nidzaru_log_begin(log, NIDZARU_LOG_READ); }
 
 /* After a read that gave these data. The stamp is taken before the hash. */
 NIDZARU_LOG_INLINE void nidzaru_log_end_read(nidzaru_log *log, uint64_t number, const void *data, size_t size) {
     uint64_t end = nidzaru_log_stamp_end();
-    nidzaru_log_end(log, NIDZARU_LOG_READ, NIDZARU_LOG_READ, end, nidzaru_log_record_of(number, data, size));
+    nidzaru_log_record got = nidzaru_log_record_of(number, data, size);
+    nidzaru_log_end(log, NIDZARU_LOG_READ, NIDZARU_LOG_READ, end, &got);
 }
 
 /* The next operation of a log to be written, or nothing: after those that ended a write that is under way. */
@@ -470,6 +495,15 @@ NIDZARU_LOG_INLINE nidzaru_log *nidzaru_log_first(nidzaru_log *const *logs, size
     return first;
 }
 
+/* Writes a record under its key, and its words. */
+NIDZARU_LOG_INLINE void nidzaru_log_put_record(FILE *to, const char *key, const nidzaru_log_record *it) {
+    fprintf(to, ",\"%s\":[%" PRIu64 ",%" PRIu64 "]", key, it->number, it->hash);
+#if NIDZARU_LOG_WORDS
+    for (uint64_t at = 0; at < it->kept; at++) fprintf(to, "%s%" PRIu64, at ? "," : ",\"words\":[", it->words[at]);
+    if (it->kept) fputs("]", to);
+#endif
+}
+
 NIDZARU_LOG_INLINE void nidzaru_log_put(FILE *to, const nidzaru_log *log, uint64_t zero) {
     static const char *const kinds[] = {"", "write", "read", "refused"};
     const nidzaru_log_operation *it = nidzaru_log_next(log);
@@ -479,7 +513,8 @@ NIDZARU_LOG_INLINE void nidzaru_log_put(FILE *to, const nidzaru_log *log, uint64
     } else {
         fprintf(to, "%" PRIu64, it->end - zero);
     }
-    fprintf(to, ",\"record\":[%" PRIu64 ",%" PRIu64 "]}\n", it->record.number, it->record.hash);
+    nidzaru_log_put_record(to, "record", &it->record);
+    fputs("}\n", to);
 }
 
 /* Why these logs can't be merged, or 0. */
@@ -494,7 +529,8 @@ NIDZARU_LOG_INLINE int nidzaru_log_fault(nidzaru_log *const *logs, size_t count,
 
 /* Writes the header of a log. `limit` is the number of writes before the first that may be refused, or 0 where none ever is. */
 NIDZARU_LOG_INLINE void nidzaru_log_header(FILE *to, nidzaru_log_record opening, uint64_t limit) {
-    fprintf(to, "{\"kind\":\"lines\",\"opening\":[%" PRIu64 ",%" PRIu64 "]", opening.number, opening.hash);
+    fputs("{\"kind\":\"lines\"", to);
+    nidzaru_log_put_record(to, "opening", &opening);
     if (limit) fprintf(to, ",\"limit\":%" PRIu64, limit);
     fputs("}\n", to);
 }

@@ -167,6 +167,7 @@ NIDZARU_INLINE uint64_t nidzaru_shared_type(const char *name, size_t size, size_
 /* Below NIDZARU_REGISTER(name, type) or NIDZARU_TRIPLE_REGISTER(name, type): the type NAME_shared and the functions NAME_shared_make,
  * NAME_claim_writer, NAME_recover_writer, NAME_yield_writer, and the same three of the reader. */
 #define NIDZARU_SHARED_REGISTER(name)                                                                                  \
+    NIDZARU_ASSERT(!name##_is_fan, "a block has a register for each reader, or a board");                              \
     typedef struct {                                                                                                   \
         nidzaru_item item;                                                                                             \
         nidzaru_claim claims[2];                                                                                       \

@@ -199,7 +199,7 @@ static void statuses(void) {
     s.words[0] = 20;
     check(!smalls_write(&p[2], &s, &stamp) && stamp.tag == 2 && stamp.writer == 2, "the second write");
     stamp.tag = 55;
-    check(smalls_write(&p[1], &s, &stamp) == NIDZARU_WORN_OUT && stamp.tag == 55, "the tags have ended");
+    check(smalls_write(&p[1], &s, &stamp) == NIDZARU_REFUSED && stamp.tag == 55, "the tags have ended");
     check(!smalls_read(&p[0], &t, &stamp) && t.words[0] == 20 && stamp.tag == 2, "a read after the tags have ended");
     check(OTHER(24_read)(&p[0].handle.side, &t, &stamp) == NIDZARU_OTHER_SIDE, "a place over another family");
     check(CALL(256_write)(&p[0].handle.side, &s, &stamp) == NIDZARU_OTHER_SIDE, "a place of another size");

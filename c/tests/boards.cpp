@@ -94,7 +94,7 @@ template <cell C> void calls() {
     const long took = asked;
     check(!places[0].write(2.5, given) && given.tag == 1 && given.writer == 0 && places[0].last_stamp() == given, "a write");
     given = stamp(7, 7);
-    check(places[1].write(3.5, given) == NIDZARU_WORN_OUT && given == stamp(7, 7), "the tags have ended");
+    check(places[1].write(3.5, given) == NIDZARU_REFUSED && given == stamp(7, 7), "the tags have ended");
     check(!places[1].read(x, given) && x == 2.5 && given == stamp(1, 0) && places[1].last_stamp() == given, "a read");
     auto moved = std::move(places[0]);
     check(!places[0] && moved && moved.last_stamp() == stamp(1, 0), "a place that was moved");

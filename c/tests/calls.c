@@ -279,6 +279,7 @@ static void texts(void) {
     check(!strcmp(nidzaru_status_text(NIDZARU_DONE), "done") && !strcmp(nidzaru_status_text(NIDZARU_NO_MEMORY), "memory was refused")
               && !strcmp(nidzaru_status_text(NIDZARU_ENDED), "the handle has no side")
               && !strcmp(nidzaru_status_text(NIDZARU_COPIED), "the handle was copied")
+              && !strcmp(nidzaru_status_text(NIDZARU_WORN_OUT), "the limit refuses the write")
               && !strcmp(nidzaru_status_text(NIDZARU_NO_NEWS), "there is no news"), "texts", "another text");
     check(!strcmp(nidzaru_status_text(NIDZARU_CUT_OFF + 1), nidzaru_status_text(-1)), "texts", "a number that is no status");
 }

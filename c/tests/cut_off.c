@@ -2,7 +2,7 @@
  * handles then answer: the one that was cut off NIDZARU_CUT_OFF for good, or else all that it owes; the other side goes on. On x86-64, whose
  * trap flag steps through a call.
  *
- *   cut_off                    -DBYTES=24, -DTRIPLE, -DBOARD; -DPLANTED: a mark that is taken away, which is found */
+ *   cut_off                    -DBYTES=24, -DTRIPLE, -DBOARD, -DFAN; -DPLANTED: a mark that is taken away, which is found */
 #include <nidzaru.h>
 #include <setjmp.h>
 #include <signal.h>
@@ -123,6 +123,72 @@ static int round_of(int writes) {
 
 static const char *const calls[] = {"read", "write"};
 enum { CALLS = 2 };
+#elif defined FAN
+static cell_writer writer;
+static cell_reader reader[2];
+static uint64_t last[2], written;
+
+/* A read, of no number below the last one. The record of a number is the same to both readers. */
+static int read_by(size_t r) {
+    struct record item;
+    uint64_t number;
+    int status = cell_read(&reader[r], &item, &number);
+    if (status) return status;
+    if (number < last[r] || which(&item) != number) fails("an older record, or another one of this number");
+    last[r] = number;
+    return status;
+}
+
+static int write_by(uint64_t n) {
+    const struct record item = record_of(n);
+    return cell_write(&writer, &item);
+}
+
+static int round_of(int call) {
+    const struct record first = record_of(0);
+    struct record item;
+    static int known;
+    (void)call;
+    memset(&writer, 0, sizeof writer);
+    memset(reader, 0, sizeof reader);
+    memset(last, 0, sizeof last);
+    written = 0;
+    known = -1;
+    DO(cell_make(&first, &writer, &reader));
+    for (long k = 0; k < 4; k++) {
+        if (before >> k & 1) DO(write_by(++written));
+        else DO(read_by(k % 2));
+    }
+#ifdef PLANTED
+    planted = writer.handle.side.live;
+#endif
+    item = record_of(written + 1);
+    if (!CUT(cell_write(&writer, &item))) return 0;
+    PLANT(writer.handle.side);
+    for (int k = 0; k < AFTER; k++) {
+        DO(read_by(0));
+        DO(read_by(1));
+        if (last[0] < last[1] || last[0] > written + 1 + (uint64_t)k) fails("the second reader has what the first one hasn't");
+        if (is_lost(write_by(last[0] + 1), &known)) {
+            const uint64_t had[2] = {last[0], last[1]};
+            DO(read_by(0));
+            DO(read_by(1));
+            if (had[0] != last[0] || had[1] != last[1]) fails("a write that was refused, and is seen");
+        } else {
+            DO(read_by(0));
+            DO(read_by(1));
+            if (last[0] != last[1]) fails("two records after a write");
+        }
+    }
+    if (is_lost(cell_end_writer(&writer), &known)) lost++;
+    DO(cell_end_reader(&reader[0]));
+    DO(cell_end_reader(&reader[1]));
+    cuts++;
+    return 1;
+}
+
+static const char *const calls[] = {"write"};
+enum { CALLS = 1 };
 #else
 #ifdef TRIPLE
 NIDZARU_LOAN(cell);

@@ -58,13 +58,13 @@ static inline int had_all(long at, int status, long least, const char *name) {
     return had;
 }
 
-static int is_all(const void *bytes, size_t count, int value) {
+static inline int is_all(const void *bytes, size_t count, int value) {
     for (size_t k = 0; k < count; k++)
         if (((const unsigned char *)bytes)[k] != value) return 0;
     return 1;
 }
 
-static void fill(void *bytes, size_t count, int seed) {
+static inline void fill(void *bytes, size_t count, int seed) {
     for (size_t k = 0; k < count; k++) ((unsigned char *)bytes)[k] = (unsigned char)(seed + 7 * (int)k + 1);
 }
 

@@ -1,7 +1,7 @@
 """The wrong edits of the headers and of the crate for Rust that planted.py makes, each with the test that refuses it."""
 
 H, HPP, LIB, BOARDS, RAW = "c/nidzaru.h", "c/nidzaru.hpp", "src/lib.rs", "src/boards.rs", "src/raw.rs"
-WATCHED, BLOCK, SHARED = "src/watched.rs", "src/block.rs", "src/shared.rs"
+WATCHED, BLOCK, SHARED, FANS = "src/watched.rs", "src/block.rs", "src/shared.rs", "src/fans.rs"
 COPIED = "if (nidzaru_is_copied(&{0}->handle)) return NIDZARU_COPIED;"
 WRITE = "int name##_write(name##_writer *writer, const name##_record *item) { if (!writer || !item) return NIDZARU_NULL; "
 B_WRITE = "int name##_write(name##_place *place, const name##_record *item, nidzaru_stamp *stamp) { "
@@ -17,8 +17,11 @@ NO_CHECK = "NIDZARU_CHECKED int name##_{0}", "NIDZARU_INLINE int name##_{0}"
 # The calls whose status the compiler sees to, and how their functions begin.
 STATUSES = [
     *[(call, f"{call}(") for call in ("look", "hold", "hold_news", "loan", "publish", "move_writer", "move_reader", "make_limited", "read_since", "move")],
-    ("make", "make(const name##_record *first, name##_writer"),
-    *[(call, f"{call}(name##_{side}") for call, side in (("write", "writer"), ("read", "reader"), ("latest", "reader"), ("news", "reader"))],
+    ("make", "make(const name##_record *first, name##_writer *writer"),
+    ("write", "write(name##_writer *writer"),
+    ("a fan's make", "make(const name##_record *first, name##_writer *fan"),
+    ("a fan's write", "write(name##_writer *fan"),
+    *[(call, f"{call}(name##_reader") for call in ("read", "latest", "news")],
     ("a board's make", "make(const name##_record *first, name##_place"),
     *[(f"a board's {call}", f"{call}(name##_place") for call in ("write", "read", "latest", "news")],
 ]
@@ -270,7 +273,7 @@ HEADER = [
     ("a move of a copy", "if (nidzaru_is_copied(from)) return NIDZARU_COPIED;", "", "calls"),
     ("a move that isn't at home", "to->home = to;", "to->home = from;", "calls"),
     ("a move that leaves its side", "from->side.live = 0; from->side.at = NIDZARU_NOWHERE;", "", "calls"),
-    ("a maker that isn't at home", "w->home = w;", "", "calls"),
+    ("a maker that isn't at home", "w->home = w; r->home = r;", "r->home = r;", "calls"),
     ("handles side by side", "#define NIDZARU_APART 64", "#define NIDZARU_APART 8", "calls", "a writer's handle"),
     (
         "casts as in C",
@@ -322,6 +325,42 @@ HEADER = [
         "objects, C++20",
     ),
     ("nothing has a tail of others", "enum { value = (__is_class(T) ||", "enum { value = 0 && (__is_class(T) ||", "objects"),
+    ("a fan that gives its record to the first reader alone", "for (k = 0; k < fan->count && !status; k++) status",
+     "for (k = 0; k < 1 && !status; k++) status", "fans"),
+    ("a fan that gives its record to the last reader first", "status = nidzaru_sized_write(triple, size, &nidzaru_fan_writers(fan)[k], item);",
+     "status = nidzaru_sized_write(triple, size, &nidzaru_fan_writers(fan)[fan->count - 1 - k], item);", "fans"),
+    ("a fan that goes on beyond a refusal", "k < fan->count && !status; k++", "k < fan->count; k++", "fans"),
+    ("a fan whose readers' numbers part", "if (status && k > 1) return NIDZARU_CUT_OFF;", "", "fans"),
+    ("a refused write of a fan that is lost", "if (status && k > 1)", "if (status)", "fans"),
+    ("a fan's call without its mark", "nidzaru_fan_mark(w, NIDZARU_BUSY); return NIDZARU_DONE;", "return NIDZARU_DONE;", "fans"),
+    ("a fan's mark that stays", "nidzaru_fan_mark(w, NIDZARU_FAN_SIDE); return status;", "return status;", "fans"),
+    ("a fan's calls with any handle", "if (live != NIDZARU_FAN_SIDE) return", "if (!live) return", "fans"),
+    ("a fan's call that was cut off, and has ended", "live == NIDZARU_BUSY ? NIDZARU_CUT_OFF : NIDZARU_OTHER_SIDE", "NIDZARU_OTHER_SIDE", "fans"),
+    ("a fan in a live writer's handle", "size_t made, k; if (w->side.live) return NIDZARU_IN_USE;", "size_t made, k;", "fans"),
+    ("a fan with one handle for two sides", "if (readers[k] == w) return NIDZARU_IN_USE;", "", "fans"),
+    ("readers of a fan that wasn't made", "for (k = 0; k < made; k++) nidzaru_sized_end_reader(triple, size, readers[k]);", "", "fans"),
+    ("writers of a fan that wasn't made", "nidzaru_drop_fan(triple, size, fan, made);", "nidzaru_release(fan->block);", "fans"),
+    ("a fan that keeps its block", "nidzaru_release(fan->block);", "", "fans"),
+    ("a fan whose registers don't end", "nidzaru_sized_end_writer(triple, size, &nidzaru_fan_writers(fan)[k]);", "(void)triple, (void)size;", "fans"),
+    ("a fan's end that ends nothing", "nidzaru_fan_mark(w, 0);", "nidzaru_fan_mark(w, NIDZARU_FAN_SIDE);", "fans"),
+    ("a fan's memory that isn't looked at", "if (!block) return NIDZARU_NOWHERE; memcpy(&at,", "memcpy(&at,", "fans"),
+    ("a fan's memory that is refused and isn't told", "if (!fan) return NIDZARU_NO_MEMORY;", "if (!fan) return NIDZARU_DONE;", "fans"),
+    ("a fan's block without its last line", "63) / 64 * 64 + 64)", "63) / 64 * 64)", "fans, watched"),
+    ("a fan's writer that isn't at home", "w->side.at = fan; w->home = w;", "w->side.at = fan;", "fans"),
+    ("a copied fan writes", "if (!fan || !item) return NIDZARU_NULL; if (nidzaru_is_copied(&fan->handle)) return NIDZARU_COPIED;",
+     "if (!fan || !item) return NIDZARU_NULL;", "fans"),
+    ("a copied fan ends", "if (!fan) return NIDZARU_NULL; if (nidzaru_is_copied(&fan->handle)) return NIDZARU_COPIED;", "if (!fan) return NIDZARU_NULL;",
+     "fans"),
+    ("a fan without readers to make", "if (!first || !fan || !readers) return", "if (!first || !fan) return", "fans"),
+    ("a fan's write of nothing", "if (!fan || !item) return", "if (!fan) return", "fans"),
+    ("a fan's opening with a tail that isn't zeros", "/ 8] = {0}; nidzaru_copy(words, NIDZARU_TO(const void *, first), sizeof(name##_record)); "
+     "return nidzaru_fan_make(", "/ 8]; memset(words, 1, sizeof words); nidzaru_copy(words, NIDZARU_TO(const void *, first), "
+     "sizeof(name##_record)); return nidzaru_fan_make(", "fans"),
+    ("a fan's record with a tail that isn't zeros", "/ 8] = {0}; nidzaru_copy(words, NIDZARU_TO(const void *, item), sizeof(name##_record)); "
+     "return nidzaru_fan_write(", "/ 8]; memset(words, 1, sizeof words); nidzaru_copy(words, NIDZARU_TO(const void *, item), "
+     "sizeof(name##_record)); return nidzaru_fan_write(", "fans"),
+    ("a fan of no readers", '(readers_of) >= 1, "a fan', '1, "a fan', "refused records c"),
+    ("a fan that lends", '!name##_is_fan, "the records of a fan', '1, "the records of a fan', "refused records c"),
     (
         "a release that isn't asked for",
         "__asm__ volatile(\"\" : : \"r\"(NIDZARU_SINCE(NIDZARU_VERSION_MAJOR, NIDZARU_VERSION_MINOR)));",
@@ -505,8 +544,18 @@ CLASSES = [
     ("stamps: <=>", "return order <=> same;", "return same <=> order;", "objects, C++20"),
     ("a side that is always there", "return handle.side.live != 0;", "return true;", "objects"),
     ("a side as a number", "explicit operator bool()", "operator bool()", "refused calls c++"),
+    ("a fan of no readers", 'N >= 1, "a fan', '1, "a fan', "refused records c++"),
+    ("a fan's writer that goes and doesn't end", "~fan_writer() { end(); }", "~fan_writer() {}", "fans.cpp"),
+    ("a fan's writer that another one replaces", "fan_writer &operator=(fan_writer &&from) noexcept { if (this != std::addressof(from)) { end(); take(from);",
+     "fan_writer &operator=(fan_writer &&from) noexcept { if (this != std::addressof(from)) { take(from);", "fans.cpp"),
+    ("a fan that isn't made, and is given", "if (detail::fan_making::make<T, N, C>(first, *made)) return std::nullopt;",
+     "(void)!detail::fan_making::make<T, N, C>(first, *made);", "fans.cpp"),
+    ("a fan that isn't made, and isn't thrown", "if (detail::fan_making::make<T, N, C>(first, made)) throw std::bad_alloc();",
+     "(void)!detail::fan_making::make<T, N, C>(first, made);", "fans.cpp"),
+    ("a fan without exceptions", 'static_assert(detail::never<T>, "make_fan throws', 'static_assert(true, "make_fan throws', "refused without exceptions c++"),
     *[(f"the answer of {call}", f"[[nodiscard]] {call}", call, "refused calls c++") for call in (
-        "explicit operator bool()", "int write(const T &item) noexcept", "int read(T &item, std::uint64_t", "int look(", "const T *hold()",
+        "explicit operator bool()", "int write(const T &item) noexcept { if constexpr (record::passes) { return nidzaru_sized_write",
+        "int write(const T &item) noexcept { if constexpr (record::passes) { return nidzaru_fan_write", "int read(T &item, std::uint64_t", "int look(", "const T *hold()",
         "T *loan() noexcept", "int publish() noexcept",
         "std::optional<T> latest() noexcept { record copy; if (nidzaru_sized_read(", "std::optional<T> news() noexcept { return has_news()",
         "bool has_news() noexcept { std::uint64_t", "std::uint64_t number() const",
@@ -638,6 +687,8 @@ CRATE = [
         "test calls",
     ),
     ("a greatest limit of a million", BOARDS, "GREATEST_LIMIT: u64 = u64::MAX - 1", "GREATEST_LIMIT: u64 = 1_000_000", "test boards"),
+    ("15 places by an array", BOARDS, "2 <= N && N <= 16", "2 <= N && N < 16", "doc places"),
+    ("17 places by an array", BOARDS, "2 <= N && N <= 16", "2 <= N && N <= 17", "doc places"),
     ("a board with a limit", BOARDS, "limited_board(n, GREATEST_LIMIT, first)", "limited_board(n, 1_000_000, first)", "test boards"),
     ("an older answer as a fresh one", RAW, "stamp, status == DONE)", "stamp, true)", "test boards"),
     ("old news", BOARDS, "(self.last > before)", "(self.last >= before)", "test boards"),
@@ -670,7 +721,7 @@ CRATE = [
     ("the other mechanism's board", BOARDS, "size_of::<T>(), M::TRIPLE)", "size_of::<T>(), !M::TRIPLE)", "lib"),
     ("a name of the other mechanism", RAW, 'calls!(TRIPLE_24, 24, "triple_24")', 'calls!(TRIPLE_24, 24, "24")', "lib"),
     ("a tail that isn't zeros", RAW, "MaybeUninit::new(0) }; N])", "MaybeUninit::new(1) }; N])", "lib"),
-    ("a worn-out write that is done", LIB, "is_written.then_some(()).ok_or(WornOut)", "Ok(is_written.then_some(()).unwrap_or(()))", "lib"),
+    ("a refused write that is done", LIB, "is_written.then_some(()).ok_or(Refused)", "Ok(is_written.then_some(()).unwrap_or(()))", "lib"),
     (
         "a fill that panics and is published",
         RAW,
@@ -681,7 +732,16 @@ CRATE = [
         "test calls",
     ),
     ("a copy read as if it were aligned", RAW, "ptr::read_unaligned(self.0.as_ptr()", "ptr::read(self.0.as_ptr()", "lib --release"),
-    ("a small record before each hold", RAW, "if size <= 4096 { &SMALL", "if size <= 1 << 20 { &SMALL", "lib"),
+    ("a small record before each hold", RAW, "0..=4096 => SMALL.record(),", "0..=1048576 => SMALL.record(),", "lib"),
+    ("a middle record before a large hold", RAW, "4097..=65_536 => MIDDLE", "4097..=1048576 => MIDDLE", "lib"),
+    ("a fan that writes to its first reader alone", RAW, "for k in 0..N {", "for k in 0..1 {", "test fans"),
+    ("a fan whose readers' numbers part", RAW, 'assert!(k == 0, "each register has the same number");', "", "lib"),
+    ("a refused write of a fan that is lost", RAW, "each.mark(false); return false;", "return false;", "lib"),
+    ("a fan's write without its mark", RAW, "each.mark(true);", "", "lib"),
+    ("a fan's mark that stays", RAW, "each.mark(false); true", "true", "test fans"),
+    ("a fan that was cut off and goes on", RAW, "if each.is_cut_off { was_cut_off(); }", "", "lib"),
+    ("a fan of no readers", FANS, "const { assert!(N >= 1,", "const { assert!(N < 99,", "doc fan"),
+    ("what Debug prints of a FanWriter", FANS, 'debug_struct("FanWriter")', 'debug_struct("Side")', "test fans"),
     *[(f"room for a small record before a loan of {size}", RAW, f"lend::<{words}>({size},", f"lend::<512>({size},", "test large")
       for size, words in ((65536, 8192), (1048576, 131072))],
     ("no release is asked for by a register", RAW, "Option<(WritingSide, ReadingSide)> { ask_for_release();",
@@ -693,17 +753,17 @@ CRATE = [
     (
         "a refused write with a stamp",
         BOARDS,
-        "let mark = raw::write_place(Known::<T, M>::CALLS, &mut self.raw, item).ok_or(TagsEnded)?; self.last = Stamp::of(mark);",
+        "let mark = raw::write_place(Known::<T, M>::CALLS, &mut self.raw, item).ok_or(Refused)?; self.last = Stamp::of(mark);",
         "let mark = raw::write_place(Known::<T, M>::CALLS, &mut self.raw, item); self.last = mark.map(Stamp::of).unwrap_or_default(); "
-        "mark.ok_or(TagsEnded)?;",
+        "mark.ok_or(Refused)?;",
         "test boards",
     ),
     *[(f"what Debug prints of a {name}", path, f'debug_struct("{name}")', 'debug_struct("Side")', "test calls")
       for name, path in (("Writer", LIB), ("Reader", LIB), ("Place", BOARDS))],
     ("claims that a dead thread keeps", BLOCK, "if why == OWNER_DEAD { why = unsafe { pthread_mutex_consistent", "if false { why = unsafe { "
      "pthread_mutex_consistent", "blocks"),
-    ("claims of sides that were cut off", BLOCK, "raw::BUSY => Err(Refused::OwnerDead),", "raw::BUSY => Ok(()),", "blocks"),
-    ("claims of sides that ended", BLOCK, "0 => Err(Refused::Ended),", "0 => Ok(()),", "blocks"),
+    ("claims of sides that were cut off", BLOCK, "raw::BUSY => Err(BlockError::OwnerDead),", "raw::BUSY => Ok(()),", "blocks"),
+    ("claims of sides that ended", BLOCK, "0 => Err(BlockError::Ended),", "0 => Ok(()),", "blocks"),
     ("a refused claim that is kept", BLOCK, "if let Err(why) = handle.look() { claim.give(); return Err(why);",
      "if let Err(why) = handle.look() { return Err(why);", "blocks"),
     ("claims that nobody gives back", BLOCK, "if self.claim.give() == 0 {", "if false {", "blocks"),

@@ -70,6 +70,7 @@ static void check_left(const char *path, uint64_t ended, uint64_t called) {
     const nidzaru_log_operation *last = nidzaru_log_next(&log);
     if (at < called && strchr("wf", script[at]) && (!last || last->record.number != called)) die("a write whose call had begun isn't there");
     if (last && (last != &log.state->under_way || script[at] == 'r' || last->record.number != at + 1)) die("an operation is there twice");
+    if (last && last->begin <= (log.merged ? log.operations[log.merged - 1].end : 0)) die("a write began before the end of the last operation");
     nidzaru_log_close(&log);
 }
 

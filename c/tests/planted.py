@@ -15,6 +15,7 @@ import os
 import queue
 import re
 import shutil
+import signal
 import subprocess
 import sys
 import tempfile
@@ -24,13 +25,14 @@ HERE = os.path.dirname(os.path.realpath(__file__))
 TOP = os.path.dirname(os.path.dirname(HERE))
 sys.path.insert(0, HERE)
 import refused  # noqa: E402
-from edits import BLOCK, BOARDS, CLASSES, CRATE, H, HEADER, HPP, LIB, RAW, SHARED, WATCHED  # noqa: E402
+from edits import BLOCK, BOARDS, CLASSES, CRATE, FANS, H, HEADER, HPP, LIB, RAW, SHARED, WATCHED  # noqa: E402
 
 # What stands before a command, and so many seconds it may take.
 BEFORE, LONGEST = [], 240
 MEMORY = ["malloc", "realloc", "free"]
 PAUSED = ["8_write", "8_read", "8_look", "triple_8_write", "triple_8_publish", "triple_8_look", "board_24_write", "board_24_read", "board_24_read_since"]
 PAUSED_RUST = [name.replace("8_", "24_") for name in PAUSED]
+FANNED = [*MEMORY, "nidzaru_24_write", "nidzaru_triple_24_write"]
 PASSED = [f"{cell}{call}" for cell in ("24_", "triple_24_", "board_24_", "triple_board_24_") for call in ("make", "write")]
 
 
@@ -53,6 +55,9 @@ PROGRAMS = {
     "edges": (C11, "edges.c", [], wraps(MEMORY)),
     "boards": (C11, "boards.c", ["20"], wraps(MEMORY)),
     "board_edges": (C11, "board_edges.c", [], wraps(MEMORY)),
+    "fans": (C11, "fans.c", ["500"], wraps(FANNED)),
+    "fans, watched": (ADDRESSES, "fans.c", ["500"], wraps(FANNED)),
+    "fans.cpp": (CPP17, "fans.cpp", [], wraps(MEMORY)),
     "held": (C11, "held.c", ["2000"], []),
     "large": (OPTIMIZED, "large.c", [], ["-DWORDS=131072", "-DTRIPLE"]),
     "loaned": (C11, "loaned.c", ["2000"], []),
@@ -111,7 +116,7 @@ class Room:
         self.is_edited, self.built = False, {}
         for name in ("nidzaru.h", "nidzaru.hpp"):
             shutil.copy(f"{TOP}/c/{name}", self.headers)
-        for name in ("Cargo.toml", LIB, BOARDS, RAW, WATCHED, BLOCK, SHARED):
+        for name in ("Cargo.toml", LIB, BOARDS, RAW, WATCHED, BLOCK, SHARED, FANS):
             shutil.copyfile(f"{TOP}/rust/nidzaru/{name}", f"{self.crate}/{name}")
 
     def edit(self, path, old, new, all_of_them=False):
@@ -127,12 +132,18 @@ class Room:
         with open(path, "w", encoding="utf-8") as file:
             file.write(re.sub(pattern, lambda _: new, text))
 
-    def call(self, command, **more):
-        try:
-            done = subprocess.run([*BEFORE, *command], capture_output=True, text=True, errors="replace", timeout=LONGEST, check=False, **more)
-        except subprocess.TimeoutExpired:
-            return 124, "it didn't end"
-        return done.returncode, done.stdout + done.stderr
+    def call(self, command, text=None, **more):
+        """The status and what was said; what doesn't end is killed with all that it began."""
+        how = {"stdout": subprocess.PIPE, "stderr": subprocess.PIPE, "text": True, "errors": "replace", "start_new_session": True}
+        stdin = subprocess.DEVNULL if text is None else subprocess.PIPE
+        with subprocess.Popen([*BEFORE, *command], stdin=stdin, **how, **more) as it:
+            try:
+                out, err = it.communicate(text, timeout=LONGEST)
+            except subprocess.TimeoutExpired:
+                os.killpg(it.pid, signal.SIGKILL)
+                it.communicate()
+                return 124, "it didn't end"
+            return it.returncode, out + err
 
     # Each test gives: whether it was built, whether it passed, and what was said.
     def build(self, compiler, sources, between=()):
@@ -164,7 +175,7 @@ class Room:
         text = "#include <nidzaru.h>\nNIDZARU_TRIPLE_REGISTER(cells, double);\nNIDZARU_HOLD(cells);\n"
         text += "int f(cells_reader *r, const double **at, uint64_t *n) { return cells_hold(r, at, n); }\n"
         out = os.path.join(self.folder, "held.o")
-        status, said = self.call(["gcc", "-O0", "-w", "-c", "-I", self.headers, "-x", "c", "-", "-o", out], input=text)
+        status, said = self.call(["gcc", "-O0", "-w", "-c", "-I", self.headers, "-x", "c", "-", "-o", out], text=text)
         if status:
             return False, False, said
         _, said = self.call(["size", out])
@@ -188,7 +199,7 @@ class Room:
         for call in ("cells_make(&x, (cells_writer *)p, (cells_reader *)p)", "boards_make(&x, (boards_place *)p, 2)"):
             text = "#include <nidzaru.h>\nNIDZARU_REGISTER(cells, double);\nNIDZARU_BOARD(boards, double);\nstatic char p[999];\n"
             text += f"int main(void) {{ double x = 0; return {call}; }}\n"
-            status, more = self.call(["gcc", "-O2", "-w", "-I", self.headers, "-x", "c", "-", "-x", "none", self.library, "-o", "/dev/null"], input=text)
+            status, more = self.call(["gcc", "-O2", "-w", "-I", self.headers, "-x", "c", "-", "-x", "none", self.library, "-o", "/dev/null"], text=text)
             said += more
             if not status or wanted not in more:
                 return True, False, "FAILED: " + call + " links with an older library"

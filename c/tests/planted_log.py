@@ -66,7 +66,7 @@ ARM_ORDERS = {"arm": ["mrs", "isb", "the_call", "dsb ish", "isb", "mrs"], "arm, 
 ARM_C = ["aarch64-linux-gnu-gcc", "-std=c11", "-D_POSIX_C_SOURCE=200809L", "-O2", "-S"]
 
 # How an operation is kept and counted.
-KEPT = "next->kind = kind; next->begin = it->under_way.begin; next->end = end; next->record = record; "
+KEPT = "next->kind = kind; next->begin = it->under_way.begin; next->end = end; next->record = *record; "
 COUNTED = KEPT + "__atomic_store_n(&it->count, it->count + 1, __ATOMIC_RELEASE);"
 
 # The name of an edit, its file, the old text, the new one, and the test that refuses it.
@@ -74,13 +74,10 @@ PLANTED = [
     ("a begin that is its end's stamp", H, "next->begin = it->under_way.begin;", "next->begin = end;", "stamped"),
     ("a begin that is kept from before", H, "it->under_way.begin = nidzaru_log_stamp_begin(log);",
      "it->under_way.begin = log->last_end + 1;", "stamped"),
-    ("a begin before its record", H, "nidzaru_log_begin(log, NIDZARU_LOG_WRITE, nidzaru_log_record_of(number, data, size));",
-     "nidzaru_log_record none = {0, 0}; nidzaru_log_begin(log, NIDZARU_LOG_WRITE, none); "
-     "log->state->under_way.record = nidzaru_log_record_of(number, data, size);", "stamped"),
-    ("an end behind its record", H,
-     "uint64_t end = nidzaru_log_stamp_end(); nidzaru_log_end(log, NIDZARU_LOG_READ, NIDZARU_LOG_READ, end, nidzaru_log_record_of(number, data, size));",
-     "nidzaru_log_record it = nidzaru_log_record_of(number, data, size); "
-     "nidzaru_log_end(log, NIDZARU_LOG_READ, NIDZARU_LOG_READ, nidzaru_log_stamp_end(), it);", "stamped"),
+    ("a begin before its record", H, "log->state->under_way.record = nidzaru_log_record_of(number, data, size); nidzaru_log_begin(log, NIDZARU_LOG_WRITE);",
+     "nidzaru_log_begin(log, NIDZARU_LOG_WRITE); log->state->under_way.record = nidzaru_log_record_of(number, data, size);", "stamped"),
+    ("an end behind its record", H, "uint64_t end = nidzaru_log_stamp_end(); nidzaru_log_record got = nidzaru_log_record_of(number, data, size);",
+     "nidzaru_log_record got = nidzaru_log_record_of(number, data, size); uint64_t end = nidzaru_log_stamp_end();", "stamped"),
     ("no lfence", H, "_mm_lfence();", "", "stamped"),
     ("no mfence", H, "_mm_mfence();", "", "stamped"),
     ("a fence that is never left out", H, "#if NIDZARU_LOG_FENCE && defined(__x86_64__)", "#if defined(__x86_64__)", "unfenced"),
@@ -130,8 +127,8 @@ PLANTED = [
     ("a merge by ends", H, "next->begin < nidzaru_log_next(first)->begin", "next->end < nidzaru_log_next(first)->end", "recorder"),
     ("a pace that nobody keeps", H, "nidzaru_log_keep_pace(log); it->unpaired", "it->unpaired", "stamped"),
     ("a pace that is kept behind the begin", H, "nidzaru_log_keep_pace(log); it->unpaired += it->under_way.kind != NIDZARU_LOG_NOTHING; "
-     "it->under_way.record = record; it->place = it->count; it->under_way.begin = nidzaru_log_stamp_begin(log);",
-     "it->unpaired += it->under_way.kind != NIDZARU_LOG_NOTHING; it->under_way.record = record; it->place = it->count; "
+     "it->place = it->count; it->under_way.begin = nidzaru_log_stamp_begin(log);",
+     "it->unpaired += it->under_way.kind != NIDZARU_LOG_NOTHING; it->place = it->count; "
      "it->under_way.begin = nidzaru_log_stamp_begin(log); nidzaru_log_keep_pace(log);", "stamped"),
     ("a pace of one more", H, "turn < log->reach ||", "turn <= log->reach ||", "stamped"),
     ("a pace of a half", H, "<= turn + log->ahead / 2; tries++)", "<= turn; tries++)", "stamped"),
@@ -152,7 +149,19 @@ PLANTED = [
     ("a read without an effect", H, "log->state->unpaired += log->state->under_way.kind != NIDZARU_LOG_WRITE; nidzaru_log_rest", "nidzaru_log_rest", "recorder"),
     ("a count before its operation", H, COUNTED, "__atomic_store_n(&it->count, it->count + 1, __ATOMIC_RELEASE); next = &log->operations[it->count - 1]; " + KEPT, "steps"),
     ("a rest before the count", H, COUNTED, "it->under_way.kind = NIDZARU_LOG_NOTHING; " + COUNTED, "steps"),
-    ("a kind before its begin", H, "it->under_way.record = record; it->place", "it->under_way.kind = kind; it->under_way.record = record; it->place", "steps"),
+    ("a kind before its begin", H, "it->place = it->count; it->under_way.begin", "it->under_way.kind = kind; it->place = it->count; it->under_way.begin", "steps"),
+    ("a kind before its record", H, "log->state->under_way.record = nidzaru_log_record_of(number, data, size); nidzaru_log_begin",
+     "log->state->under_way.kind = NIDZARU_LOG_WRITE; log->state->under_way.record = nidzaru_log_record_of(number, data, size); "
+     "log->state->under_way.kind = NIDZARU_LOG_NOTHING; nidzaru_log_begin", "steps"),
+    ("words that are the last ones", H, "if (record.kept < NIDZARU_LOG_WORDS) record.words[record.kept++] = word;",
+     "record.words[record.kept < NIDZARU_LOG_WORDS ? record.kept++ : NIDZARU_LOG_WORDS - 1] = word;", "recorder"),
+    ("one word less than is to be kept", H, "if (record.kept < NIDZARU_LOG_WORDS) record", "if (record.kept + 1 < NIDZARU_LOG_WORDS) record", "recorder"),
+    ("words that aren't written", H, "for (uint64_t at = 0; at < it->kept; at++) fprintf", "for (uint64_t at = 0; at < 0; at++) fprintf", "recorder"),
+    ("words without the opening's", H, 'nidzaru_log_put_record(to, "opening", &opening);',
+     'nidzaru_log_record bare = opening; bare.kept = 0; nidzaru_log_put_record(to, "opening", &bare);', "recorder"),
+    ("a log of other words", H, "|| it->words != NIDZARU_LOG_WORDS) return 0;", ") return 0;", "recorder"),
+    ("more words than are kept", H, "if (!nidzaru_log_is_record(&one->record)) return 0;", "", "recorder"),
+    ("more words under way than are kept", H, "|| !nidzaru_log_is_record(&it->under_way.record)) return 0;", ") return 0;", "recorder"),
     ("a begin that isn't told", H, "it->place = it->count; it->under_way.begin", "it->under_way.begin", "steps"),
     ("an operation twice", H, "&& it->place == it->count ?", "?", "steps"),
     ("a file that nobody else sees", H, "nidzaru_log_map(file, size, MAP_SHARED)", "nidzaru_log_map(file, size, MAP_PRIVATE)", "steps"),
@@ -182,10 +191,14 @@ PLANTED = [
     ("operations that touch in Rust", RUST, "if now > last_end", "if now >= last_end", "log.rs"),
     ("unfenced that does nothing", RUST, "Log { fenced: false, ..self }", "self", "log.rs"),
     ("a log that is never fenced", RUST, "fenced: true, under_way: None", "fenced: false, under_way: None", "log.rs"),
-    ("a hash of 16 words in Rust", RUST, "words.iter().fold(Record::seed", "words.iter().take(16).fold(Record::seed", "log.rs"),
-    ("a hash of 16 words of bytes in Rust", RUST, "hash: words.fold(", "hash: words.take(16).fold(", "log.rs"),
-    ("words without their size", RUST, "Record::seed(8 * words.len())", "Record::seed(8)", "log.rs"),
-    ("bytes without their size", RUST, "Record::seed(bytes.len())", "Record::seed(8)", "log.rs"),
+    ("a hash of 16 words in Rust", RUST, "words.iter().copied())", "words.iter().copied().take(16))", "log.rs"),
+    ("a hash of 16 words of bytes in Rust", RUST, "bytes.len(), words)", "bytes.len(), words.take(16))", "log.rs"),
+    ("words without their size", RUST, "8 * words.len(), words", "8, words", "log.rs"),
+    ("bytes without their size", RUST, "bytes.len(), words)", "8, words)", "log.rs"),
+    ("words that are the last ones in Rust", RUST, "if let Some(next) = self.words.get_mut(self.kept) { *next = word; self.kept += 1; }",
+     "self.words[self.kept.min(WORDS - 1)] = word; self.kept = WORDS.min(self.kept + 1);", "log.rs"),
+    ("words that aren't written in Rust", RUST, 'in self.words().iter().enumerate() {', 'in self.words()[self.kept..].iter().enumerate() {', "log.rs"),
+    ("a header without words in Rust", RUST, 'opening.put(to, "opening")?;', 'Record { kept: 0, ..opening }.put(to, "opening")?;', "log.rs"),
     ("bytes in another order", RUST, "u64::from_le_bytes(word)", "u64::from_be_bytes(word)", "log.rs"),
     ("no flush of a merge", RUST, '{count}}}")?; to.flush()?;', '{count}}}")?;', "log.rs"),
     ("no flush of lines", RUST, "put_all(to, logs, 0)?; to.flush()?;", "put_all(to, logs, 0)?;", "log.rs"),

@@ -9,6 +9,15 @@ static void check(int holds, const char *what) {
     }
 }
 
+/* The words that stand beside a record, where words are kept. */
+#if NIDZARU_LOG_WORDS >= 2
+#define KEPT(first, second) ",\"words\":[" #first "," #second "]"
+#elif NIDZARU_LOG_WORDS
+#define KEPT(first, second) ",\"words\":[" #first "]"
+#else
+#define KEPT(first, second) ""
+#endif
+
 static nidzaru_log one, two;
 static nidzaru_log *logs[] = {&one, &two};
 static const uint64_t opening[] = {0, 7}, first[] = {1, 7}, second[] = {2, 7};
@@ -77,19 +86,19 @@ static void check_text(void) {
         check(merge(4) == 0, "a merge");
         check(!strcmp(strchr(text, '\n'),
                       "\n"
-                      "{\"who\":5,\"kind\":\"read\",\"begin\":0,\"end\":3,\"record\":[0,9]}\n"
-                      "{\"who\":3,\"kind\":\"write\",\"begin\":2,\"end\":9,\"record\":[1,9]}\n"
-                      "{\"who\":5,\"kind\":\"refused\",\"begin\":5,\"end\":6,\"record\":[1,9]}\n"
-                      "{\"who\":3,\"kind\":\"write\",\"begin\":20,\"end\":null,\"record\":[2,9]}\n"
+                      "{\"who\":5,\"kind\":\"read\",\"begin\":0,\"end\":3,\"record\":[0,9]" KEPT(0, 7) "}\n"
+                      "{\"who\":3,\"kind\":\"write\",\"begin\":2,\"end\":9,\"record\":[1,9]" KEPT(1, 7) "}\n"
+                      "{\"who\":5,\"kind\":\"refused\",\"begin\":5,\"end\":6,\"record\":[1,9]" KEPT(1, 7) "}\n"
+                      "{\"who\":3,\"kind\":\"write\",\"begin\":20,\"end\":null,\"record\":[2,9]" KEPT(2, 7) "}\n"
                       "{\"kind\":\"done\",\"ops\":4}\n"),
               "the lines by beginning: an unfinished write is there, an unfinished read isn't");
-        check(!strncmp(text, "{\"kind\":\"lines\",\"opening\":[0,", 29) && strstr(text, "],\"limit\":4}\n"), "the header");
+        check(!strncmp(text, "{\"kind\":\"lines\",\"opening\":[0,", 29) && strstr(text, "]" KEPT(0, 7) ",\"limit\":4}\n"), "the header");
     }
     check(put(1, 0) == 0 && !strcmp(text,
-                                    "{\"who\":5,\"kind\":\"read\",\"begin\":100,\"end\":103,\"record\":[0,9]}\n"
-                                    "{\"who\":3,\"kind\":\"write\",\"begin\":102,\"end\":109,\"record\":[1,9]}\n"
-                                    "{\"who\":5,\"kind\":\"refused\",\"begin\":105,\"end\":106,\"record\":[1,9]}\n"
-                                    "{\"who\":3,\"kind\":\"write\",\"begin\":120,\"end\":null,\"record\":[2,9]}\n"),
+                                    "{\"who\":5,\"kind\":\"read\",\"begin\":100,\"end\":103,\"record\":[0,9]" KEPT(0, 7) "}\n"
+                                    "{\"who\":3,\"kind\":\"write\",\"begin\":102,\"end\":109,\"record\":[1,9]" KEPT(1, 7) "}\n"
+                                    "{\"who\":5,\"kind\":\"refused\",\"begin\":105,\"end\":106,\"record\":[1,9]" KEPT(1, 7) "}\n"
+                                    "{\"who\":3,\"kind\":\"write\",\"begin\":120,\"end\":null,\"record\":[2,9]" KEPT(2, 7) "}\n"),
           "the lines alone, with the clock's own times");
     close_both();
     open_both(0);
@@ -181,6 +190,26 @@ static void check_records(void) {
     check(nidzaru_log_record_of(0, other, 19).hash == nidzaru_log_record_of(0, bytes, 19).hash, "no byte behind a record is in the hash");
 }
 
+/* The first words of a record are kept, the last one as far as it goes (on machines whose first byte is the least), and no more. */
+static void check_words(void) {
+#if NIDZARU_LOG_WORDS
+    enum { MANY = NIDZARU_LOG_WORDS + 3 };
+    uint64_t words[MANY];
+    nidzaru_log_record held = nidzaru_log_record_of(0, "", 0);
+    for (uint64_t at = 0; at < MANY; at++) words[at] = 10 + at;
+    check(held.kept == 0, "no words of no data");
+    for (size_t count = 1; count < MANY; count++) {
+        held = nidzaru_log_record_of(1, words, 8 * count);
+        check(held.kept == (count < NIDZARU_LOG_WORDS ? count : NIDZARU_LOG_WORDS), "so many words are kept");
+        check(!memcmp(held.words, words, 8 * NIDZARU_LOG_CAST(size_t, held.kept)), "the words are those of the data");
+    }
+    held = nidzaru_log_record_of(1, "abc", 3);
+    check(held.kept == 1 && held.words[0] == 0x636261, "a word that isn't whole");
+#else
+    check(sizeof(nidzaru_log_record) == 16, "a record without words");
+#endif
+}
+
 static void check_pace(void) {
     open_both(2);
     nidzaru_log_pace(logs, 2, 9);
@@ -234,7 +263,7 @@ static void check_files(const char *path) {
     size_t state = sizeof(nidzaru_log_state), operation = sizeof(nidzaru_log_operation);
     int free_file = next_file();
     void *mapped;
-    check(state == 128 && operation == 40, "the sizes that join.py knows");
+    check(operation == (NIDZARU_LOG_WORDS ? 48 + 8 * NIDZARU_LOG_WORDS : 40) && state == 128 + operation, "the sizes that join.py knows");
     check(nidzaru_log_open(&two, 5, 2) == 0 && nidzaru_log_open_file(&one, 3, 9, path) == 0, "a log in a file");
     write_one(&one, first);
     nidzaru_log_begin_write(&one, second[0], second, sizeof second);
@@ -245,14 +274,21 @@ static void check_files(const char *path) {
     check(nidzaru_log_open_left(&one, path) == 0 && put(1, 0) == 0, "what is left");
     check(!strncmp(text, "{\"who\":3,\"kind\":\"write\",", 24) && strstr(text, "\"end\":null,\"record\":[2,"),
           "a write that ended and one that didn't");
+    check(strstr(text, "]" KEPT(1, 7) "}\n") && strstr(text, "]" KEPT(2, 7) "}\n"), "their words are left too");
     close_both();
     check_spoilt("another file", path, 0, 'x');
-    check_spoilt("a log of another form", path, 7, 2);
+    check_spoilt("a log of another form", path, 7, 1);
     check_spoilt("a log that was cut off", path, state + 2 * operation - 1, -1);
     check_spoilt("less than a log", path, state - 1, -1);
     check_spoilt("nothing", path, 0, -1);
     check_spoilt("a log of another room", path, 16, 3);
     check_spoilt("a log of more than its room", path, 24, 3);
+    check_spoilt("a log of other words", path, 64, NIDZARU_LOG_WORDS + 1);
+#if NIDZARU_LOG_WORDS
+    check_spoilt("a write under way of more words than are kept", path, 128 + 40, NIDZARU_LOG_WORDS + 1);
+    check_spoilt("an operation of more words than are kept", path, state + 40, NIDZARU_LOG_WORDS + 1);
+    check_spoilt("the last operation of more words than are kept", path, state + operation + 40, NIDZARU_LOG_WORDS + 1);
+#endif
     check_spoilt("an operation of no kind", path, state, 0);
     check_spoilt("an operation of an unknown kind", path, state + operation, 4);
     check_spoilt("an operation that ends before it begins", path, state + operation + 15, 255);
@@ -280,6 +316,7 @@ int main(int count, char **words) {
     check_pairs();
     check_times();
     check_records();
+    check_words();
     check_pace();
     check_stream();
     puts(failed ? "failed" : "passed");

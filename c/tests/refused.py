@@ -26,6 +26,7 @@ LARGE = "at most 1048576 bytes"
 PLAIN = "neither const nor volatile"
 COPIES = "trivially copyable"
 HELD = "aligned to at most 8"
+FANNED = "at least one reader"
 
 C_TYPES = """
 struct ok { double low, high; }; struct most { char bytes[4096]; };
@@ -57,13 +58,20 @@ C_MACROS = [
     ("NIDZARU_TRIPLE_REGISTER(held_wide, struct wide); NIDZARU_HOLD(held_wide);", HELD),
     ("NIDZARU_TRIPLE_REGISTER(lent_ok, struct ok); NIDZARU_LOAN(lent_ok);", None),
     ("NIDZARU_TRIPLE_REGISTER(lent_wide, struct wide); NIDZARU_LOAN(lent_wide);", HELD),
+    ("NIDZARU_FAN(fan_ok, struct ok, 3);", None),
+    ("NIDZARU_FAN(fan_large, struct large2, 1);", None),
+    ("NIDZARU_TRIPLE_FAN(fan_larger, struct larger, 2);", LARGE),
+    ("NIDZARU_FAN(fan_const, const struct ok, 2);", PLAIN),
+    ("NIDZARU_FAN(fan_of_none, struct ok, 0);", FANNED),
+    ("NIDZARU_TRIPLE_FAN(fan_held, struct ok, 2); NIDZARU_HOLD(fan_held);", None),
+    ("NIDZARU_TRIPLE_FAN(fan_lent, struct ok, 2); NIDZARU_LOAN(fan_lent);", "written by a copy"),
 ]
 C_DECLARED = (
     "NIDZARU_REGISTER(ds, double); NIDZARU_REGISTER(es, double); NIDZARU_BOARD(bs, double); NIDZARU_BOARD(qs, double); "
-    "NIDZARU_TRIPLE_REGISTER(ts, double); NIDZARU_HOLD(ts); NIDZARU_LOAN(ts);"
+    "NIDZARU_TRIPLE_REGISTER(ts, double); NIDZARU_HOLD(ts); NIDZARU_LOAN(ts); NIDZARU_FAN(fs, double, 3); NIDZARU_FAN(gs, double, 2);"
 )
 C_ARGUMENTS = "double *x, uint64_t *n, nidzaru_stamp *s, nidzaru_stamp l, const double **at, double **slot"
-C_HANDLES = "ds_writer *w, ds_reader *r, bs_place *p, es_writer *ew, es_reader *er, qs_place *q, ts_reader *tr, ts_writer *tw"
+C_HANDLES = "ds_writer *w, ds_reader *r, bs_place *p, es_writer *ew, es_reader *er, qs_place *q, ts_reader *tr, ts_writer *tw, fs_writer *fw, fs_reader (*fr)[3], gs_reader (*gr)[2]"
 C_CALLS = [
     ("ds_make(x, w, r)", UNUSED),
     ("ds_write(w, x)", UNUSED),
@@ -88,6 +96,9 @@ C_CALLS = [
     ("bs_news(p, x, s)", UNUSED),
     ("bs_move(p, p)", UNUSED),
     ("bs_end(p)", None),
+    ("fs_make(x, fw, fr)", UNUSED),
+    ("fs_write(fw, x)", UNUSED),
+    ("fs_end_writer(fw)", None),
 ]
 MIXED = "incompatible pointer|incompatible type|cannot convert|no matching function"
 C_MIXED = [
@@ -108,6 +119,11 @@ C_MIXED = [
     ("(void)!ts_loan(tw, slot)", None),
     ("(void)!ts_loan(w, slot)", MIXED),
     ("(void)!ts_publish(w)", MIXED),
+    ("(void)!fs_make(x, fw, fr)", None),
+    ("(void)!fs_make(x, fw, gr)", MIXED),
+    ("(void)!fs_make(x, fw, *fr)", MIXED),
+    ("(void)!fs_write(w, x)", MIXED),
+    ("(void)!ds_write(fw, x)", MIXED),
     ("(void)!ds_write(w, vx)", "discards|discarded|invalid conversion|incompatible|cannot convert|no matching function"),
     ("(void)!ds_make(vx, w, r)", "discards|discarded|invalid conversion|incompatible|cannot convert|no matching function"),
 ]
@@ -129,6 +145,7 @@ template <class T, class C> int make(const T &);
 template <class T, nidzaru::cell C> int make(const T &);
 template <class T, nidzaru::cell C> int try_make(const T &);
 template <std::size_t N, nidzaru::cell C, class T> int make_board(const T &);
+template <std::size_t N, nidzaru::cell C, class T> int make_fan(const T &);
 template <class T> int give(T *, const void *);
 }
 """
@@ -144,7 +161,7 @@ CPP_MADE = [
     ("rooted<%d>{}", COPIES, COPIES),
 ]
 CPP_MAKERS = ["make(%s)", "make_triple(%s)", "try_make(%s)", "try_make_triple(%s)", "make_board<2>(%s)", "try_make_board<2>(%s)",
-              "make_board<2, nidzaru::cell::triple>(%s)"]
+              "make_board<2, nidzaru::cell::triple>(%s)", "make_fan<2>(%s)", "try_make_fan<2, nidzaru::cell::triple>(%s)"]
 CPP_ROWS = [
     (f"(void)nidzaru::{maker % (value % (10 * m + v))};", on_a_board if "board" in maker else wants)
     for m, maker in enumerate(CPP_MAKERS)
@@ -163,6 +180,10 @@ CPP_ROWS = [
     ("auto own = nidzaru::try_make(mine::one{1.5}); (void)own->second.news();", None),
     ("auto own = nidzaru::try_make_triple(mine::one{1.5}); mine::one x; std::uint64_t n; (void)!own->second.read(x, n);", None),
     ("auto own = nidzaru::make_board<2>(mine::one{1.5}); mine::one x; nidzaru::stamp s; (void)!own[0].read(x, s);", None),
+    ("auto own = nidzaru::make_fan<2>(mine::one{1.5}); (void)!own.first.write({2.5}); (void)own.second[1].news();", None),
+    ("static const short a3[3] = {}; (void)nidzaru::make_fan<2>(a3);", "no array"),
+    ("(void)nidzaru::make_fan<0>(1.5);", FANNED),
+    ("(void)nidzaru::try_make_fan<1>(1.5);", None),
     ("(void)nidzaru::make_board<1>(1.5);", "2 to 16 places"),
     ("(void)nidzaru::make_board<17>(1.5);", "2 to 16 places"),
     ("(void)nidzaru::try_make_board<17>(1.5f);", "2 to 16 places"),
@@ -184,9 +205,11 @@ using writer = nidzaru::writer<double>; using reader = nidzaru::reader<double>; 
 using triple_writer = nidzaru::writer<double, nidzaru::cell::triple>;
 using triple_reader = nidzaru::reader<double, nidzaru::cell::triple>;
 using triple_place = nidzaru::place<double, nidzaru::cell::triple>;
+using fan_writer = nidzaru::fan_writer<double>;
 """
 CPP_ARGUMENTS = (
-    "writer &w, reader &r, place &p, double &x, std::uint64_t &n, nidzaru::stamp &s, triple_writer &tw, triple_reader &tr, triple_place &tp"
+    "writer &w, reader &r, place &p, double &x, std::uint64_t &n, nidzaru::stamp &s, triple_writer &tw, triple_reader &tr, triple_place &tp, "
+    "fan_writer &fw"
 )
 CPP_CALLS = [
     ("w.write(x)", UNUSED),
@@ -213,6 +236,13 @@ CPP_CALLS = [
     ("p.has_news()", UNUSED),
     ("p.last_stamp()", UNUSED),
     ("p.end()", None),
+    ("fw.write(x)", UNUSED),
+    ("fw.end()", None),
+    ("nidzaru::make_fan<2>(x)", UNUSED),
+    ("nidzaru::try_make_fan<2>(x)", UNUSED),
+    ("auto copied_fan = fw", "deleted"),
+    ("fw = std::move(w)", "no match|no viable"),
+    ("fw = std::move(fw)", None),
     ("nidzaru::make(x)", UNUSED),
     ("nidzaru::make<double, nidzaru::cell::triple>(x)", UNUSED),
     ("nidzaru::make_triple(x)", UNUSED),
@@ -237,6 +267,7 @@ BARE = [
     ("(void)nidzaru::make(1.5);", "there is try_make"),
     ("(void)nidzaru::make_triple(1);", "there is try_make"),
     ("(void)nidzaru::make_board<2>(1.5f);", "there is try_make_board"),
+    ("(void)nidzaru::make_fan<2>(1.5f);", "there is try_make_fan"),
     ("(void)nidzaru::try_make(1.5); (void)nidzaru::try_make_board<2>(1.5);", None),
 ]
 STRICT_C_ROWS = [(f"({call} ? 1 : 0)", None) for call, _ in C_CALLS]
@@ -247,6 +278,8 @@ STRICT_CPP_ROWS = [
     ("auto [w, r] = nidzaru::make_triple(1.5f); if (w.write(1) || r.latest() || r.news() || r.hold()) return", None),
     ("auto p = nidzaru::make_board<2>(1.5); double x; nidzaru::stamp s; if (p[0].write(1, s) || p[0].read(x, s) || p[0].news()) return", None),
     ("auto p = nidzaru::make_board<2>(1.5f); float x; nidzaru::stamp s; if (p[0].read_since(s, x, s) || p[0].has_news()) return", None),
+    ("auto [w, r] = nidzaru::make_fan<2>(1.5); double x = 0; std::uint64_t n; if (w.write(x) || r[1].read(x, n)) return", None),
+    ("flaps_writer w = NIDZARU_EMPTY; flaps_reader r[2] = {NIDZARU_EMPTY, NIDZARU_EMPTY}; double x = 1; if (flaps_make(&x, &w, &r)) return", None),
     ("reals_writer w = NIDZARU_EMPTY; reals_reader r = NIDZARU_EMPTY; double x = 1; if (reals_make(&x, &w, &r)) return", None),
     ("planks_place p[2] = {NIDZARU_EMPTY, NIDZARU_EMPTY}; float x = 1; if (planks_make(&x, p, 2)) return", None),
     ("loans_writer w = NIDZARU_EMPTY; double *at = nullptr; if (loans_loan(&w, &at) || loans_publish(&w)) return", None),
@@ -266,7 +299,7 @@ C_HEAD = '#include "nidzaru.h"\n'
 CPP_HEAD = '#include "nidzaru.hpp"\n#include <utility>\n'
 STRICT_TYPES = (
     "NIDZARU_REGISTER(reals, double);\nNIDZARU_TRIPLE_BOARD(planks, float);\nNIDZARU_TRIPLE_REGISTER(loans, double);\nNIDZARU_HOLD(loans);\n"
-    "NIDZARU_LOAN(loans);\n"
+    "NIDZARU_LOAN(loans);\nNIDZARU_FAN(flaps, double, 2);\n"
 )
 C_FULL = f"{C_HANDLES}, {C_ARGUMENTS}"
 PAGES = [

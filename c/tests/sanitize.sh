@@ -21,7 +21,8 @@ for size in 8 24 64 256 1024 4096 65536 1048576; do
     led="$led -Wl,--wrap=nidzaru_triple_${size}_hold,--wrap=nidzaru_triple_${size}_loan"
 done
 calls='write read look hold loan publish end_writer end_reader board_write board_read board_read_since board_end'
-tests='test edges calls triple_calls held loaned boards triple_boards board_edges test_cpp boards_cpp'
+fanned=$wrapped,--wrap=nidzaru_24_write,--wrap=nidzaru_triple_24_write
+tests='test edges calls triple_calls held loaned boards triple_boards board_edges fans triple_fans test_cpp boards_cpp fans_cpp'
 
 # Runs a program whose last line must be 'passed'.
 run() {
@@ -75,8 +76,8 @@ compile() {
     flags=$1
     in_c test test.c && in_c edges edges.c $wrapped && in_c calls calls.c $wrapped && in_c triple_calls calls.c -DTRIPLE $wrapped \
         && in_c held held.c && in_c loaned loaned.c && in_c boards boards.c $wrapped && in_c triple_boards boards.c -DTRIPLE $wrapped \
-        && in_c board_edges board_edges.c $wrapped \
-        && in_cpp test_cpp test.cpp $wrapped && in_cpp boards_cpp boards.cpp $wrapped
+        && in_c board_edges board_edges.c $wrapped && in_c fans fans.c $fanned && in_c triple_fans fans.c -DTRIPLE $fanned \
+        && in_cpp test_cpp test.cpp $wrapped && in_cpp boards_cpp boards.cpp $wrapped && in_cpp fans_cpp fans.cpp $wrapped
 }
 
 # Whether this compiler has these sanitizers.

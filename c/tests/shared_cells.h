@@ -1,5 +1,5 @@
 /* What the tests of killed processes and of cut-off calls share: a record of BYTES bytes, whose words are a number and those that follow it,
- * and the register or board that they end over, by -DTRIPLE and -DBOARD. */
+ * and the register, board or fan that they end over, by -DTRIPLE, -DBOARD and -DFAN. */
 #ifndef NIDZARU_TESTS_SHARED_CELLS_H
 #define NIDZARU_TESTS_SHARED_CELLS_H
 
@@ -27,7 +27,11 @@ static inline struct record record_of(uint64_t n) {
     return record_from(n * 1000);
 }
 
-#if defined BOARD && defined TRIPLE
+#if defined FAN && defined TRIPLE
+NIDZARU_TRIPLE_FAN(cell, struct record, 2);
+#elif defined FAN
+NIDZARU_FAN(cell, struct record, 2);
+#elif defined BOARD && defined TRIPLE
 NIDZARU_TRIPLE_BOARD(cell, struct record);
 #elif defined BOARD
 NIDZARU_BOARD(cell, struct record);

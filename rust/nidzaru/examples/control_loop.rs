@@ -2,7 +2,7 @@
 //! stand in the input, a word a line (`hold`, `run`, `stop`), and the control loop takes the newest of both in each of its steps. No
 //! task waits for another, and none sees half of an old record. The end of the input stops it too.
 
-use nidzaru::{register, triple_register, Reader, Triple, WornOut, Writer};
+use nidzaru::{register, triple_register, Reader, Refused, Triple, Writer};
 use std::error::Error;
 use std::io::{self, BufRead};
 use std::thread;
@@ -33,7 +33,7 @@ struct State {
 }
 
 /// Publishes readings until the newest command is to stop.
-fn sense(mut readings: Writer<Reading>, mut commands: Reader<Command>) -> Result<(), WornOut> {
+fn sense(mut readings: Writer<Reading>, mut commands: Reader<Command>) -> Result<(), Refused> {
     let mut n = 0;
     while commands.latest() != Command::Stop {
         n += 1;
@@ -45,7 +45,7 @@ fn sense(mut readings: Writer<Reading>, mut commands: Reader<Command>) -> Result
 }
 
 /// Steers by the newest reading until the newest command is to stop.
-fn control(mut readings: Reader<Reading>, mut commands: Reader<Command>, mut states: Writer<State, Triple>) -> Result<(), WornOut> {
+fn control(mut readings: Reader<Reading>, mut commands: Reader<Command>, mut states: Writer<State, Triple>) -> Result<(), Refused> {
     let mut state = State::default();
     loop {
         match commands.latest() {

@@ -6,7 +6,7 @@
 //!
 //! DRIVER is a program that drives in place of this one, as that of examples/c/processes.c.
 
-use nidzaru::shared::{Block, Refused, Register};
+use nidzaru::shared::{Block, BlockError, Register};
 use std::process::Command;
 use std::time::{Duration, Instant};
 
@@ -29,7 +29,7 @@ fn drive(name: &str) -> Result<(), Failed> {
     let block = unsafe { Block::<Plant>::attach(name)? };
     let register = &block.root().readings;
     let mut writer = match register.claim_writer(&block) {
-        Err(Refused::OwnerDead) => register.recover_writer(&block)?,
+        Err(BlockError::OwnerDead) => register.recover_writer(&block)?,
         claimed => claimed?,
     };
     (1..).try_for_each(|n| writer.write(&reading(n)))?;

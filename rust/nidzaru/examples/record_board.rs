@@ -4,7 +4,7 @@
 //!     record_board OPERATIONS [register]
 
 use nidzaru::log::{merge, Log, Record};
-use nidzaru::{Place, Reader, TagsEnded, Writer};
+use nidzaru::{Place, Reader, Refused, Writer};
 use std::env;
 use std::error::Error;
 use std::io::{self, BufWriter};
@@ -18,7 +18,7 @@ fn item(number: u64) -> Item {
 }
 
 /// The tasks' writes have different numbers.
-fn run_place(me: u64, mut place: Place<Item>, log: &mut Log) -> Result<(), TagsEnded> {
+fn run_place(me: u64, mut place: Place<Item>, log: &mut Log) -> Result<(), Refused> {
     for turn in 1.. {
         if log.is_full() {
             break;

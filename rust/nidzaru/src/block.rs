@@ -59,7 +59,7 @@ const MARK: u64 = 0x6465_7261_6873_6e7a;
 /// Why a call on a block was refused.
 #[derive(Debug)]
 #[non_exhaustive]
-pub enum Refused {
+pub enum BlockError {
     /// There is a block of this name.
     NameTaken,
     /// This process has other memory where the block lies.
@@ -94,35 +94,35 @@ pub enum Refused {
     System(Error),
 }
 
-impl core::fmt::Display for Refused {
+impl core::fmt::Display for BlockError {
     fn fmt(&self, to: &mut core::fmt::Formatter<'_>) -> core::fmt::Result {
         to.write_str(match self {
-            Refused::NameTaken => "there is a block of this name",
-            Refused::AddressTaken => "the process has other memory where the block lies",
-            Refused::NoBlock => "there is no such block of this name",
-            Refused::NotReady => "it isn't made yet",
-            Refused::OtherBuild => "the block is of another library or header",
-            Refused::OtherType => "it was made for another type",
-            Refused::OtherUser => "another user owns the block or may open it",
-            Refused::Claimed => "it has an owner",
-            Refused::OwnerDead => "its owner died within a call",
-            Refused::NotOwner => "this thread isn't its owner",
-            Refused::Elsewhere => "it doesn't lie in this block",
-            Refused::InUse => "it is made already",
-            Refused::Ended => "the side was ended",
-            Refused::NoSuch => "there is no place or block of this name or number",
-            Refused::OutOfMemory => "memory was refused",
-            Refused::System(why) => return write!(to, "the system refused it: {why}"),
+            BlockError::NameTaken => "there is a block of this name",
+            BlockError::AddressTaken => "the process has other memory where the block lies",
+            BlockError::NoBlock => "there is no such block of this name",
+            BlockError::NotReady => "it isn't made yet",
+            BlockError::OtherBuild => "the block is of another library or header",
+            BlockError::OtherType => "it was made for another type",
+            BlockError::OtherUser => "another user owns the block or may open it",
+            BlockError::Claimed => "it has an owner",
+            BlockError::OwnerDead => "its owner died within a call",
+            BlockError::NotOwner => "this thread isn't its owner",
+            BlockError::Elsewhere => "it doesn't lie in this block",
+            BlockError::InUse => "it is made already",
+            BlockError::Ended => "the side was ended",
+            BlockError::NoSuch => "there is no place or block of this name or number",
+            BlockError::OutOfMemory => "memory was refused",
+            BlockError::System(why) => return write!(to, "the system refused it: {why}"),
         })
     }
 }
 
-impl core::error::Error for Refused {}
+impl core::error::Error for BlockError {}
 
-fn by_system(why: Error) -> Refused {
+fn by_system(why: Error) -> BlockError {
     match why.raw_os_error() {
-        Some(NO_MEMORY | NO_ROOM) => Refused::OutOfMemory,
-        _ => Refused::System(why),
+        Some(NO_MEMORY | NO_ROOM) => BlockError::OutOfMemory,
+        _ => BlockError::System(why),
     }
 }
 
@@ -159,14 +159,14 @@ impl Claim {
     }
 
     /// Takes it, also from a thread that is dead.
-    fn take(&self) -> Result<(), Refused> {
+    fn take(&self) -> Result<(), BlockError> {
         // The mutex is made, since its register is.
         let mut why = unsafe { pthread_mutex_trylock(self.at()) };
         if why == OWNER_DEAD {
             why = unsafe { pthread_mutex_consistent(self.at()) };
         }
         if why != 0 {
-            return Err(Refused::Claimed);
+            return Err(BlockError::Claimed);
         }
         self.process.store(std::process::id(), Ordering::Relaxed);
         Ok(())
@@ -232,11 +232,11 @@ impl Handle {
     }
 
     /// What the side says of itself. The claim is this thread's.
-    fn look(&self) -> Result<(), Refused> {
+    fn look(&self) -> Result<(), BlockError> {
         // The claim is this thread's, so no call of another one runs.
         match unsafe { (*self.live.get()).state() } {
-            0 => Err(Refused::Ended),
-            raw::BUSY => Err(Refused::OwnerDead),
+            0 => Err(BlockError::Ended),
+            raw::BUSY => Err(BlockError::OwnerDead),
             _ => Ok(()),
         }
     }
@@ -340,9 +340,9 @@ pub const fn kind_of(name: &str, size: usize, alignment: usize) -> u64 {
 const ROOT_AT: u64 = (size_of::<Head>() as u64).next_multiple_of(PAGE);
 
 /// What the file is called that has a block's name.
-fn path_of(name: &str) -> Result<String, Refused> {
+fn path_of(name: &str) -> Result<String, BlockError> {
     let rest = name.strip_prefix('/').filter(|rest| !rest.is_empty() && !rest.contains(['/', '\0']) && *rest != "." && *rest != "..");
-    rest.map(|rest| format!("/dev/shm/{rest}")).ok_or(Refused::NoSuch)
+    rest.map(|rest| format!("/dev/shm/{rest}")).ok_or(BlockError::NoSuch)
 }
 
 /// A block as this process has it.
@@ -360,28 +360,28 @@ unsafe impl Send for Mapped {}
 unsafe impl Sync for Mapped {}
 
 /// Maps the file's bytes at this address, which has to be free.
-fn map(file: &File, at: u64, bytes: u64) -> Result<NonNull<Head>, Refused> {
+fn map(file: &File, at: u64, bytes: u64) -> Result<NonNull<Head>, BlockError> {
     let wanted = at as usize as *mut c_void;
     // No other memory is there, or nothing is mapped.
     let mapped = unsafe { mmap(wanted, bytes as usize, READ_WRITE, MAP, file.as_raw_fd(), 0) };
     if mapped as isize == -1 {
         let why = Error::last_os_error();
-        return Err(if why.raw_os_error() == Some(TAKEN) { Refused::AddressTaken } else { by_system(why) });
+        return Err(if why.raw_os_error() == Some(TAKEN) { BlockError::AddressTaken } else { by_system(why) });
     }
     if mapped != wanted {
         // (a kernel before 4.17 takes the address as a wish)
         unsafe { munmap(mapped, bytes as usize) };
-        return Err(Refused::AddressTaken);
+        return Err(BlockError::AddressTaken);
     }
-    NonNull::new(mapped.cast()).ok_or(Refused::AddressTaken)
+    NonNull::new(mapped.cast()).ok_or(BlockError::AddressTaken)
 }
 
 /// Takes away the name if it is this file's.
-fn unlink_own(path: &str, device: u64, file: u64) -> Result<(), Refused> {
+fn unlink_own(path: &str, device: u64, file: u64) -> Result<(), BlockError> {
     match std::fs::metadata(path) {
         Ok(seen) if (seen.dev(), seen.ino()) == (device, file) => std::fs::remove_file(path).map_err(by_system),
-        Ok(_) => Err(Refused::NoBlock),
-        Err(why) if why.kind() == std::io::ErrorKind::NotFound => Err(Refused::NoBlock),
+        Ok(_) => Err(BlockError::NoBlock),
+        Err(why) if why.kind() == std::io::ErrorKind::NotFound => Err(BlockError::NoBlock),
         Err(why) => Err(by_system(why)),
     }
 }
@@ -409,14 +409,14 @@ impl Mapped {
         }
     }
 
-    pub fn create(name: &str, at: u64, bytes: usize, root_bytes: usize, kind: u64) -> Result<Mapped, Refused> {
+    pub fn create(name: &str, at: u64, bytes: usize, root_bytes: usize, kind: u64) -> Result<Mapped, BlockError> {
         let path = path_of(name)?;
-        let bytes = (bytes as u64).checked_next_multiple_of(PAGE).filter(|&it| it <= i64::MAX as u64).ok_or(Refused::OutOfMemory)?;
+        let bytes = (bytes as u64).checked_next_multiple_of(PAGE).filter(|&it| it <= i64::MAX as u64).ok_or(BlockError::OutOfMemory)?;
         if bytes < ROOT_AT + root_bytes as u64 {
-            return Err(Refused::OutOfMemory);
+            return Err(BlockError::OutOfMemory);
         }
         let file = OpenOptions::new().read(true).write(true).create_new(true).mode(0o600).open(&path);
-        let file = file.map_err(|why| if why.raw_os_error() == Some(TAKEN) { Refused::NameTaken } else { by_system(why) })?;
+        let file = file.map_err(|why| if why.raw_os_error() == Some(TAKEN) { BlockError::NameTaken } else { by_system(why) })?;
         let seen = file.metadata().map_err(by_system)?;
         let made = Mapped::fill(&file, &seen, at, bytes, root_bytes as u64, kind);
         if made.is_err() {
@@ -427,7 +427,7 @@ impl Mapped {
     }
 
     /// Gives the file its bytes, and fills the head.
-    fn fill(file: &File, seen: &Metadata, at: u64, bytes: u64, root_bytes: u64, kind: u64) -> Result<Mapped, Refused> {
+    fn fill(file: &File, seen: &Metadata, at: u64, bytes: u64, root_bytes: u64, kind: u64) -> Result<Mapped, BlockError> {
         // The file is open.
         let why = unsafe { posix_fallocate(file.as_raw_fd(), 0, bytes as i64) };
         if why != 0 {
@@ -452,16 +452,16 @@ impl Mapped {
         Ok(Mapped::new(head, seen, true))
     }
 
-    pub fn attach(name: &str, root_bytes: usize, kind: u64) -> Result<Mapped, Refused> {
+    pub fn attach(name: &str, root_bytes: usize, kind: u64) -> Result<Mapped, BlockError> {
         let mut file = OpenOptions::new().read(true).write(true).open(path_of(name)?).map_err(|why| match why.kind() {
-            std::io::ErrorKind::NotFound => Refused::NoBlock,
-            std::io::ErrorKind::PermissionDenied => Refused::OtherUser,
+            std::io::ErrorKind::NotFound => BlockError::NoBlock,
+            std::io::ErrorKind::PermissionDenied => BlockError::OtherUser,
             _ => by_system(why),
         })?;
         let seen = file.metadata().map_err(by_system)?;
         // (it takes nothing)
         if seen.uid() != unsafe { geteuid() } || seen.mode() & 0o77 != 0 {
-            return Err(Refused::OtherUser);
+            return Err(BlockError::OtherUser);
         }
         let (at, bytes) = look_at(&mut file, seen.size(), root_bytes as u64, kind)?;
         let head = map(&file, at, bytes)?;
@@ -473,16 +473,16 @@ impl Mapped {
         is_open.map(|()| Mapped::new(head, &seen, false))
     }
 
-    pub fn open(&self) -> Result<(), Refused> {
+    pub fn open(&self) -> Result<(), BlockError> {
         if !self.unopened.load(Ordering::Relaxed) || self.head().maker.give() != 0 {
-            return Err(Refused::NotOwner);
+            return Err(BlockError::NotOwner);
         }
         self.unopened.store(false, Ordering::Relaxed);
         self.head().ready.store(1, Ordering::Release);
         Ok(())
     }
 
-    pub fn unlink(&self, name: &str) -> Result<(), Refused> {
+    pub fn unlink(&self, name: &str) -> Result<(), BlockError> {
         unlink_own(&path_of(name)?, self.device, self.file)
     }
 
@@ -490,20 +490,20 @@ impl Mapped {
         (self.head().bytes - self.head().used.load(Ordering::Relaxed)) as usize
     }
 
-    fn has<S>(&self, it: &S) -> Result<(), Refused> {
+    fn has<S>(&self, it: &S) -> Result<(), BlockError> {
         let from = self.head.as_ptr() as u64;
         let to = ptr::from_ref(it) as u64;
         if to >= from && to - from < self.head().bytes {
             Ok(())
         } else {
-            Err(Refused::Elsewhere)
+            Err(BlockError::Elsewhere)
         }
     }
 
     /// Makes what an item stands before, by a call that takes the library's memory from this block and answers its status.
-    pub fn make(&self, item: &Item, claims: &[Claim], kind: u64, codes: impl FnOnce() -> Result<[u64; 2], u32>) -> Result<(), Refused> {
+    pub fn make(&self, item: &Item, claims: &[Claim], kind: u64, codes: impl FnOnce() -> Result<[u64; 2], u32>) -> Result<(), BlockError> {
         self.has(item)?;
-        item.state.compare_exchange(EMPTY, BEGUN, Ordering::Acquire, Ordering::Relaxed).map_err(|_| Refused::InUse)?;
+        item.state.compare_exchange(EMPTY, BEGUN, Ordering::Acquire, Ordering::Relaxed).map_err(|_| BlockError::InUse)?;
         if let Some(why) = claims.iter().map(Claim::begin).find(|&why| why != 0) {
             item.state.store(EMPTY, Ordering::Release);
             return Err(by_system(Error::from_raw_os_error(why)));
@@ -516,17 +516,17 @@ impl Mapped {
             item.codes.iter().zip(codes).for_each(|(to, code)| to.store(code as u16, Ordering::Relaxed));
         }
         item.state.store(if made.is_ok() { MADE } else { EMPTY }, Ordering::Release);
-        made.map(|_| ()).map_err(|_| Refused::OutOfMemory)
+        made.map(|_| ()).map_err(|_| BlockError::OutOfMemory)
     }
 
     /// Makes this thread the owner of a side.
-    pub fn claim<'b>(&'b self, item: &Item, claim: &'b Claim, handle: &'b Handle, kind: u64) -> Result<Claimed<'b>, Refused> {
+    pub fn claim<'b>(&'b self, item: &Item, claim: &'b Claim, handle: &'b Handle, kind: u64) -> Result<Claimed<'b>, BlockError> {
         self.has(item)?;
         if item.state.load(Ordering::Acquire) != MADE {
-            return Err(Refused::NotReady);
+            return Err(BlockError::NotReady);
         }
         if item.kind.load(Ordering::Relaxed) != kind {
-            return Err(Refused::OtherType);
+            return Err(BlockError::OtherType);
         }
         claim.take()?;
         if let Err(why) = handle.look() {
@@ -598,14 +598,14 @@ impl Mapped {
         kind: u64,
         size: usize,
         is_writer: bool,
-    ) -> Result<Claimed<'b>, Refused> {
+    ) -> Result<Claimed<'b>, BlockError> {
         match self.claim(item, claim, handle, kind) {
-            Err(Refused::OwnerDead) => {}
+            Err(BlockError::OwnerDead) => {}
             claimed => return claimed,
         }
         claim.take()?;
         let mended = match handle.look() {
-            Err(Refused::OwnerDead) => self.mend(handle, size, is_writer).ok_or(Refused::OwnerDead),
+            Err(BlockError::OwnerDead) => self.mend(handle, size, is_writer).ok_or(BlockError::OwnerDead),
             looked => looked.map(|()| 0),
         };
         if let Err(why) = mended {
@@ -666,29 +666,29 @@ impl Drop for Mapped {
 }
 
 /// Whether a file that was opened by its name may be attached, by what stands in its head: where it lies and how long it is.
-fn look_at(file: &mut File, size: u64, root_bytes: u64, kind: u64) -> Result<(u64, u64), Refused> {
+fn look_at(file: &mut File, size: u64, root_bytes: u64, kind: u64) -> Result<(u64, u64), BlockError> {
     let mut words = [0_u64; 6];
     for word in &mut words {
         let mut bytes = [0; 8];
-        file.read_exact(&mut bytes).map_err(|_| Refused::NotReady)?;
+        file.read_exact(&mut bytes).map_err(|_| BlockError::NotReady)?;
         *word = u64::from_ne_bytes(bytes);
     }
     let [mark, its_build, at, bytes, its_kind, its_root_bytes] = words;
     match mark {
-        0 => Err(Refused::NotReady),
+        0 => Err(BlockError::NotReady),
         MARK if its_build == build() && bytes == size => {
             if (its_kind, its_root_bytes) == (kind, root_bytes) {
                 Ok((at, bytes))
             } else {
-                Err(Refused::OtherType)
+                Err(BlockError::OtherType)
             }
         }
-        _ => Err(Refused::OtherBuild),
+        _ => Err(BlockError::OtherBuild),
     }
 }
 
 /// Whether the block is open; if it isn't, whether its maker lives.
-fn is_open(head: &Head) -> Result<(), Refused> {
+fn is_open(head: &Head) -> Result<(), BlockError> {
     if head.ready.load(Ordering::Acquire) != 0 {
         return Ok(());
     }
@@ -700,8 +700,8 @@ fn is_open(head: &Head) -> Result<(), Refused> {
     }
     match why {
         _ if head.ready.load(Ordering::Acquire) != 0 => Ok(()),
-        OWNER_DEAD | NOT_RECOVERABLE => Err(Refused::OwnerDead),
-        _ => Err(Refused::NotReady),
+        OWNER_DEAD | NOT_RECOVERABLE => Err(BlockError::OwnerDead),
+        _ => Err(BlockError::NotReady),
     }
 }
 

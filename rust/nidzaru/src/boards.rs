@@ -1,7 +1,7 @@
 //! Boards: one record that several threads share.
 
 use crate::raw::{self, BoardCalls, BoardPlace, Mark, NoBoard};
-use crate::{FourSlot, Mechanism, Triple};
+use crate::{FourSlot, Mechanism, Refused, Triple};
 use alloc::vec::Vec;
 use core::fmt;
 use core::marker::PhantomData;
@@ -61,18 +61,6 @@ impl fmt::Display for BoardError {
 
 impl core::error::Error for BoardError {}
 
-/// The tags of a board, up to its limit, have ended. The record wasn't written.
-#[derive(Clone, Copy, Debug, PartialEq, Eq)]
-pub struct TagsEnded;
-
-impl fmt::Display for TagsEnded {
-    fn fmt(&self, to: &mut fmt::Formatter<'_>) -> fmt::Result {
-        to.write_str("the tags of a board have ended")
-    }
-}
-
-impl core::error::Error for TagsEnded {}
-
 /// What is known of a record of a board when the program is compiled.
 struct Known<T, M>(PhantomData<(T, M)>);
 
@@ -106,7 +94,7 @@ impl<T: Copy + Send, M: Mechanism> Known<T, M> {
 ///                 let high = f64::from(n) + me as f64;
 ///                 place.write(&Setpoint { low: -high, high })?;
 ///             }
-///             Ok::<_, nidzaru::TagsEnded>(place.stamp())
+///             Ok::<_, nidzaru::Refused>(place.stamp())
 ///         })
 ///     })
 ///     .collect();
@@ -175,8 +163,17 @@ pub fn board_over<T: Copy + Send, M: Mechanism>(n: usize, first: T) -> Result<Ve
 ///
 /// There are 2 to 16 of them:
 ///
+/// ```
+/// let most: [nidzaru::Place<f64>; 16] = nidzaru::places(1.5)?;
+/// # Ok::<(), nidzaru::BoardError>(())
+/// ```
+///
 /// ```compile_fail,E0080
 /// let [only] = nidzaru::places(1.5).unwrap();
+/// ```
+///
+/// ```compile_fail,E0080
+/// let more: [nidzaru::Place<f64>; 17] = nidzaru::places(1.5).unwrap();
 /// ```
 pub fn places<T: Copy + Send, const N: usize>(first: T) -> Result<[Place<T>; N], BoardError> {
     places_over(first)
@@ -201,7 +198,7 @@ pub fn places_over<T: Copy + Send, M: Mechanism, const N: usize>(first: T) -> Re
 /// ```
 /// let mut places = nidzaru::limited_board::<_, nidzaru::FourSlot>(2, 1, 'a')?;
 /// places[0].write(&'b')?;
-/// assert_eq!(places[1].write(&'c'), Err(nidzaru::TagsEnded));
+/// assert_eq!(places[1].write(&'c'), Err(nidzaru::Refused));
 /// assert_eq!(places[1].read(), 'b');
 /// # Ok::<(), Box<dyn std::error::Error>>(())
 /// ```
@@ -263,8 +260,8 @@ pub struct Place<T: Copy + Send, M: Mechanism = FourSlot> {
 impl<T: Copy + Send, M: Mechanism> Place<T, M> {
     /// Puts the record under the next stamp above all that this place sees, and gives the stamp.
     #[inline]
-    pub fn write(&mut self, item: &T) -> Result<Stamp, TagsEnded> {
-        let mark = raw::write_place(Known::<T, M>::CALLS, &mut self.raw, item).ok_or(TagsEnded)?;
+    pub fn write(&mut self, item: &T) -> Result<Stamp, Refused> {
+        let mark = raw::write_place(Known::<T, M>::CALLS, &mut self.raw, item).ok_or(Refused)?;
         self.last = Stamp::of(mark);
         Ok(self.last)
     }

@@ -20,7 +20,7 @@
 //!         let value = f64::from(n);
 //!         writer.write(&Reading { low: -value, high: value, value })?;
 //!     }
-//!     Ok::<(), nidzaru::WornOut>(())
+//!     Ok::<(), nidzaru::Refused>(())
 //! });
 //! while reader.number() < 1000 {
 //!     let seen = reader.latest();
@@ -93,6 +93,7 @@ compile_error!(env!("NIDZARU_MISSING"));
 #[cfg(feature = "shared")]
 mod block;
 mod boards;
+mod fans;
 #[cfg(feature = "std")]
 pub mod log;
 mod raw;
@@ -101,7 +102,12 @@ pub mod shared;
 mod watched;
 
 pub use boards::{board, board_over, limited_board, places, places_over, triple_board};
-pub use boards::{BoardError, Place, Since, Stamp, TagsEnded, GREATEST_LIMIT};
+pub use boards::{BoardError, Place, Since, Stamp, GREATEST_LIMIT};
+pub use fans::{fan, fan_from, fan_over, Fan, FanWriter};
+
+// (the names that it had before 2.1)
+#[doc(hidden)]
+pub use crate::{Refused as TagsEnded, Refused as WornOut};
 
 use core::fmt;
 use core::marker::PhantomData;
@@ -124,17 +130,18 @@ impl fmt::Display for OutOfMemory {
 
 impl core::error::Error for OutOfMemory {}
 
-/// All numbers of a register, up to 2^64 - 1, are used. The record wasn't written.
+/// The limit refuses the write, and nothing was written. A register's last number is 2^64 - 1; on a board, the place saw a tag that isn't
+/// below the board's limit.
 #[derive(Clone, Copy, Debug, PartialEq, Eq)]
-pub struct WornOut;
+pub struct Refused;
 
-impl fmt::Display for WornOut {
+impl fmt::Display for Refused {
     fn fmt(&self, to: &mut fmt::Formatter<'_>) -> fmt::Result {
-        to.write_str("all numbers of a register are used")
+        to.write_str("the limit refuses the write")
     }
 }
 
-impl core::error::Error for WornOut {}
+impl core::error::Error for Refused {}
 
 mod sealed {
     pub trait Sealed {}
@@ -302,8 +309,8 @@ pub struct Writer<T: Copy + Send, M: Mechanism = FourSlot> {
 impl<T: Copy + Send, M: Mechanism> Writer<T, M> {
     /// Shows the record to the reader, under the next number. The error comes after 2^64 - 1 writes.
     #[inline]
-    pub fn write(&mut self, item: &T) -> Result<(), WornOut> {
-        told(raw::write(Known::<T, M>::CALLS, &mut self.side, item))
+    pub fn write(&mut self, item: &T) -> Result<(), Refused> {
+        written(raw::write(Known::<T, M>::CALLS, &mut self.side, item))
     }
 }
 
@@ -338,15 +345,15 @@ impl<T: Copy + Send> Writer<T, Triple> {
     ///
     /// If `fill` panics, nothing is shown, and what it filled is what the next `write_with` finds.
     #[inline]
-    pub fn write_with(&mut self, fill: impl FnOnce(&mut T)) -> Result<(), WornOut> {
-        told(raw::write_in_place(Known::<T, Triple>::CALLS, &mut self.side, fill))
+    pub fn write_with(&mut self, fill: impl FnOnce(&mut T)) -> Result<(), Refused> {
+        written(raw::write_in_place(Known::<T, Triple>::CALLS, &mut self.side, fill))
     }
 }
 
 /// What a write answers.
 #[inline]
-fn told(is_written: bool) -> Result<(), WornOut> {
-    is_written.then_some(()).ok_or(WornOut)
+fn written(is_written: bool) -> Result<(), Refused> {
+    is_written.then_some(()).ok_or(Refused)
 }
 
 /// The right to read. It may go to another thread, and one thread uses it at a time. Writes go on when it goes.
@@ -517,8 +524,9 @@ mod tests {
     use super::*;
 
     #[test]
-    fn a_write_that_the_library_refuses_is_told() {
-        assert_eq!((told(true), told(false)), (Ok(()), Err(WornOut)));
+    fn a_write_that_the_library_refuses_is_refused() {
+        assert_eq!((written(true), written(false)), (Ok(()), Err(Refused)));
+        assert_eq!((WornOut, TagsEnded), (Refused, Refused), "the names of before");
     }
 
     #[test]

@@ -36,7 +36,9 @@
 //! # Records
 //!
 //! A record is a number and a hash of all data. The number stands in the data; no two writes have the same, and none has the opening's. So
-//! data of two writes that were mixed show as a record that nobody wrote (unless two hashes are equal by chance).
+//! data of two writes that were mixed show as a record that nobody wrote (unless two hashes are equal by chance). The first [`WORDS`] words
+//! of 8 bytes are kept too, and written as `"words"` beside the record: they tell of which writes a torn record is, which
+//! `tools/convert/explain.py` says. No judge looks at them.
 //!
 //! # Stamps
 //!
@@ -151,20 +153,24 @@ mod clock {
     }
 }
 
-/// What was written or given: the number that stands in the data, and a hash of all of them.
+/// How many words of a record are kept beside its hash.
+pub const WORDS: usize = 8;
+
+/// What was written or given: the number that stands in the data, a hash of all of them, and the first words.
 #[derive(Clone, Copy, Debug, Default, PartialEq, Eq, Hash)]
 pub struct Record {
     /// The writes of a log have different numbers.
     pub number: u64,
     /// Of two that differ in one word alone the hashes differ.
     pub hash: u64,
+    kept: usize,
+    words: [u64; WORDS],
 }
 
 impl Record {
     /// The record of data that are words, of which the first is their number.
     pub fn of_words(words: &[u64]) -> Record {
-        let number = words.first().copied().unwrap_or(0);
-        Record { number, hash: words.iter().fold(Record::seed(8 * words.len()), |hash, word| Record::mix(hash, *word)) }
+        Record::of(words.first().copied().unwrap_or(0), 8 * words.len(), words.iter().copied())
     }
 
     /// The record of data that are bytes. Of words in their order in memory it is the same as [`of_words`](Record::of_words) on x86-64 and ARM.
@@ -174,16 +180,36 @@ impl Record {
             word[..chunk.len()].copy_from_slice(chunk);
             u64::from_le_bytes(word)
         });
-        Record { number, hash: words.fold(Record::seed(bytes.len()), Record::mix) }
+        Record::of(number, bytes.len(), words)
     }
 
-    fn seed(size: usize) -> u64 {
-        0x9e37_79b9_7f4a_7c15 ^ size as u64
+    /// The first words of the data, at most [`WORDS`].
+    pub fn words(&self) -> &[u64] {
+        &self.words[..self.kept]
     }
 
-    fn mix(hash: u64, word: u64) -> u64 {
-        let mixed = (hash ^ word).wrapping_mul(0xff51_afd7_ed55_8ccd);
-        mixed ^ (mixed >> 32)
+    fn of(number: u64, size: usize, words: impl Iterator<Item = u64>) -> Record {
+        let mut record = Record { number, hash: 0x9e37_79b9_7f4a_7c15 ^ size as u64, ..Record::default() };
+        words.for_each(|word| record.take(word));
+        record
+    }
+
+    fn take(&mut self, word: u64) {
+        let mixed = (self.hash ^ word).wrapping_mul(0xff51_afd7_ed55_8ccd);
+        self.hash = mixed ^ (mixed >> 32);
+        if let Some(next) = self.words.get_mut(self.kept) {
+            *next = word;
+            self.kept += 1;
+        }
+    }
+
+    /// Writes it under its key, and its words.
+    fn put(&self, to: &mut impl Write, key: &str) -> io::Result<()> {
+        write!(to, ",\"{key}\":[{},{}]", self.number, self.hash)?;
+        for (at, word) in self.words().iter().enumerate() {
+            write!(to, "{}{word}", if at == 0 { ",\"words\":[" } else { "," })?;
+        }
+        to.write_all(if self.kept == 0 { b"" } else { b"]" })
     }
 }
 
@@ -508,7 +534,8 @@ fn moment_after(last_end: u64, mut clock: impl FnMut() -> u64) -> u64 {
 
 /// Writes the header of a log. `limit` is the number of writes before the first that may be refused.
 pub fn header(to: &mut impl Write, opening: Record, limit: Option<NonZeroU64>) -> io::Result<()> {
-    write!(to, "{{\"kind\":\"lines\",\"opening\":[{},{}]", opening.number, opening.hash)?;
+    write!(to, "{{\"kind\":\"lines\"")?;
+    opening.put(to, "opening")?;
     match limit {
         Some(limit) => writeln!(to, ",\"limit\":{limit}}}"),
         None => writeln!(to, "}}"),
@@ -551,7 +578,8 @@ fn put_all(to: &mut impl Write, logs: &[Log], zero: u64) -> io::Result<u64> {
             Some(end) => write!(to, "{}", end - zero)?,
             None => write!(to, "null")?,
         }
-        writeln!(to, ",\"record\":[{},{}]}}", record.number, record.hash)?;
+        record.put(to, "record")?;
+        writeln!(to, "}}")?;
         places[at] += 1;
         count += 1;
     }
@@ -568,9 +596,14 @@ fn first_of(logs: &[Log], places: &[usize]) -> Option<(usize, Line)> {
 mod tests {
     use super::*;
 
-    const OPENING: Record = Record { number: 0, hash: 9 };
-    const FIRST: Record = Record { number: 1, hash: 9 };
-    const SECOND: Record = Record { number: 2, hash: 9 };
+    const OPENING: Record = bare(0, 9);
+    const FIRST: Record = bare(1, 9);
+    const SECOND: Record = bare(2, 9);
+
+    /// A record without words.
+    const fn bare(number: u64, hash: u64) -> Record {
+        Record { number, hash, kept: 0, words: [0; WORDS] }
+    }
 
     fn text(logs: &[Log], limit: Option<NonZeroU64>) -> Result<String, MergeError> {
         let mut written = Vec::new();
@@ -612,6 +645,36 @@ mod tests {
             {\"who\":5,\"kind\":\"refused\",\"begin\":105,\"end\":106,\"record\":[1,9]}\n\
             {\"who\":3,\"kind\":\"write\",\"begin\":120,\"end\":null,\"record\":[2,9]}\n";
         assert_eq!(String::from_utf8(alone).unwrap(), wanted);
+    }
+
+    /// Hashes are left out, as another test has them.
+    #[test]
+    fn words_stand_beside_their_records() {
+        let mut log = Log::new(3, 2).unwrap();
+        log.write(Record { hash: 9, ..Record::of_words(&[1, 20, 30]) }, || ());
+        log.read(|| (), |()| Record { hash: 9, ..Record::of_bytes(1, b"abc") });
+        set_times(&mut log, 0, 5, 6);
+        set_times(&mut log, 1, 7, 8);
+        log.under_way = Some((9, Record { hash: 9, ..Record::of_words(&[2]) }));
+        let mut written = Vec::new();
+        merge(&mut written, &[log], Record { hash: 9, ..Record::of_words(&[0, 10]) }, NonZeroU64::new(4)).unwrap();
+        let wanted = "{\"kind\":\"lines\",\"opening\":[0,9],\"words\":[0,10],\"limit\":4}\n\
+            {\"who\":3,\"kind\":\"write\",\"begin\":0,\"end\":1,\"record\":[1,9],\"words\":[1,20,30]}\n\
+            {\"who\":3,\"kind\":\"read\",\"begin\":2,\"end\":3,\"record\":[1,9],\"words\":[6513249]}\n\
+            {\"who\":3,\"kind\":\"write\",\"begin\":4,\"end\":null,\"record\":[2,9],\"words\":[2]}\n\
+            {\"kind\":\"done\",\"ops\":3}\n";
+        assert_eq!(String::from_utf8(written).unwrap(), wanted);
+    }
+
+    #[test]
+    fn the_first_words_are_kept() {
+        let words: [u64; WORDS + 2] = std::array::from_fn(|at| 10 + at as u64);
+        let bytes: Vec<u8> = words.iter().flat_map(|word| word.to_le_bytes()).collect();
+        for count in 0..words.len() {
+            let wanted = &words[..count.min(WORDS)];
+            assert_eq!(Record::of_words(&words[..count]).words(), wanted);
+            assert_eq!(Record::of_bytes(10, &bytes[..8 * count]).words(), wanted);
+        }
     }
 
     #[test]
@@ -770,10 +833,11 @@ mod tests {
     /// The hashes were computed by hand, and are those of `nidzaru_log.h`.
     #[test]
     fn each_byte_is_in_the_hash() {
-        assert_eq!(Record::of_words(&[5]), Record { number: 5, hash: 0x2c67_c3ed_3a1d_bcd5 });
-        assert_eq!(Record::of_words(&[5, 6, 7]), Record { number: 5, hash: 0xb422_ed38_0a36_caaf });
-        assert_eq!(Record::of_bytes(8, &5u64.to_le_bytes()), Record { number: 8, hash: 0x2c67_c3ed_3a1d_bcd5 });
-        assert_eq!(Record::of_bytes(8, b"abc"), Record { number: 8, hash: 0x4251_23e1_db48_5aaa });
+        let told = |it: Record| (it.number, it.hash);
+        assert_eq!(told(Record::of_words(&[5])), (5, 0x2c67_c3ed_3a1d_bcd5));
+        assert_eq!(told(Record::of_words(&[5, 6, 7])), (5, 0xb422_ed38_0a36_caaf));
+        assert_eq!(told(Record::of_bytes(8, &5u64.to_le_bytes())), (8, 0x2c67_c3ed_3a1d_bcd5));
+        assert_eq!(told(Record::of_bytes(8, b"abc")), (8, 0x4251_23e1_db48_5aaa));
         const SIZE: usize = 1100;
         let zeros = Record::of_bytes(0, &[0; SIZE]).hash;
         for at in 0..SIZE {

@@ -29,7 +29,7 @@ use core::ptr;
 
 const DONE: u32 = 0;
 const NO_MEMORY: u32 = 1;
-const WORN_OUT: u32 = 4;
+const REFUSED: u32 = 4;
 const PROCESSES: u32 = 8;
 const LIMIT: u32 = 9;
 const OLDER: u32 = 10;
@@ -387,6 +387,56 @@ unsafe fn open_at(calls: &'static Calls, first: *const c_void) -> Option<(Writin
     Some((writer, ReadingSide { live: Live { side: reader, order }, end: calls.end_reader }))
 }
 
+/// The writing sides of a fan, of whose registers each reader has one. Between two calls their numbers are alike.
+pub struct EachSide<const N: usize> {
+    sides: [WritingSide; N],
+    is_cut_off: bool,
+}
+
+impl<const N: usize> EachSide<N> {
+    /// Says before a call that it is cut off, and behind it that it isn't.
+    #[inline]
+    fn mark(&mut self, is_cut_off: bool) {
+        // (a store that no other one makes needless: the call between may not come back)
+        unsafe { ptr::write_volatile(&mut self.is_cut_off, is_cut_off) };
+    }
+}
+
+/// The sides of a new fan. None where memory is refused, and what was made until then goes.
+pub fn open_each<T: Copy, const N: usize>(calls: &'static Calls, first: &T) -> Option<(EachSide<N>, [ReadingSide; N])> {
+    let mut made = [const { None }; N];
+    for both in &mut made {
+        *both = Some(open(calls, first)?);
+    }
+    let mut readers = [const { None }; N];
+    let mut places = readers.iter_mut();
+    let sides = made.map(|both| {
+        let (writer, reader) = both.expect("each register is made");
+        *places.next().expect("as many readers as registers") = Some(reader);
+        writer
+    });
+    Some((EachSide { sides, is_cut_off: false }, readers.map(|reader| reader.expect("each register has a reader"))))
+}
+
+/// Writes the record into each register. `false` where the limit refuses it, as it does in all of them.
+#[inline]
+pub fn write_each<T: Copy, const N: usize>(calls: &'static Calls, each: &mut EachSide<N>, item: &T) -> bool {
+    if each.is_cut_off {
+        was_cut_off();
+    }
+    each.mark(true);
+    for k in 0..N {
+        if !write(calls, &mut each.sides[k], item) {
+            // (if one before it has the record, the numbers aren't alike any more)
+            assert!(k == 0, "each register has the same number");
+            each.mark(false);
+            return false;
+        }
+    }
+    each.mark(false);
+    true
+}
+
 /// What a side or place in shared memory says of itself: 0 where there is none, [`BUSY`] where a call runs or was cut off, else its number.
 #[cfg(feature = "shared")]
 impl Live {
@@ -450,7 +500,7 @@ pub fn fingerprint() -> u64 {
     unsafe { FINGERPRINT }
 }
 
-/// Writes the record. `false` where the numbers are used up.
+/// Writes the record. `false` where the limit refuses it.
 #[inline]
 pub fn write<T: Copy>(calls: &'static Calls, writer: &mut Live, item: &T) -> bool {
     if passes::<T>(calls.size) {
@@ -479,7 +529,7 @@ fn lend<const N: usize>(size: usize, loan: Loan, writer: &mut Side) -> (u32, *mu
     (status, at)
 }
 
-/// Fills the record in the writer's slot of a triple buffer where it lies, and publishes it. `false` where the numbers are used up.
+/// Fills the record in the writer's slot of a triple buffer where it lies, and publishes it. `false` where the limit refuses it.
 #[inline]
 pub fn write_in_place<T: Copy>(calls: &'static Calls, writer: &mut Live, fill: impl FnOnce(&mut T)) -> bool {
     const { assert!(align_of::<T>() <= 8, "a record that is filled where it lies is aligned to at most 8") };
@@ -501,7 +551,7 @@ pub fn write_in_place<T: Copy>(calls: &'static Calls, writer: &mut Live, fill: i
 fn is_written(status: u32) -> bool {
     match status {
         DONE => true,
-        WORN_OUT => false,
+        REFUSED => false,
         CUT_OFF => was_cut_off(),
         other => unreachable!("the handle has the writing side, or a place, so the status isn't {other}"),
     }
@@ -556,21 +606,32 @@ pub fn look(calls: &'static Calls, reader: &mut Live) -> u64 {
     number
 }
 
-/// A large record, in a cell so that its zeros take no room in the program's file.
-struct Large(UnsafeCell<[u64; 131_072]>);
+/// A record of zeros, in a cell so that it takes no room in the program's file.
+struct Zeros<const N: usize>(UnsafeCell<[u64; N]>);
+
+impl<const N: usize> Zeros<N> {
+    const NEW: Self = Zeros(UnsafeCell::new([0; N]));
+
+    fn record(&self) -> &[u64] {
+        // Nobody writes there.
+        unsafe { &*self.0.get() }
+    }
+}
 
 // Nobody writes there.
-unsafe impl Sync for Large {}
+unsafe impl<const N: usize> Sync for Zeros<N> {}
 
-/// A record of zeros of this size of the library's, or a larger one, for what has to lead to one before a hold.
+/// A record of zeros with room for the record of the library that so many bytes go into, for what has to lead to one before a hold. A program
+/// has in its memory those alone that it asks for.
+#[inline]
 fn any_record(size: usize) -> &'static [u64] {
-    static SMALL: [u64; 512] = [0; 512];
-    static LARGE: Large = Large(UnsafeCell::new([0; 131_072]));
-    if size <= 4096 {
-        &SMALL
-    } else {
-        // Nobody writes there.
-        unsafe { &*LARGE.0.get() }
+    static SMALL: Zeros<512> = Zeros::NEW;
+    static MIDDLE: Zeros<8192> = Zeros::NEW;
+    static LARGE: Zeros<131_072> = Zeros::NEW;
+    match size {
+        0..=4096 => SMALL.record(),
+        4097..=65_536 => MIDDLE.record(),
+        _ => LARGE.record(),
     }
 }
 
@@ -578,7 +639,7 @@ fn any_record(size: usize) -> &'static [u64] {
 #[inline]
 pub fn hold<'a, T: Copy>(calls: &'static Calls, reader: &'a mut Live) -> (&'a T, u64) {
     const { assert!(align_of::<T>() <= 8, "a record that is read where it lies is aligned to at most 8") };
-    let (mut at, mut number) = (any_record(calls.size).as_ptr().cast::<c_void>(), 0);
+    let (mut at, mut number) = (any_record(size_of::<T>()).as_ptr().cast::<c_void>(), 0);
     // `at` leads to a whole record, as the library asks, and then to the one that the reader holds.
     must_be_done(reader.order.see(|| unsafe {
         match (calls.look)(&mut reader.side, &mut number) {
@@ -816,10 +877,81 @@ mod tests {
         assert!(goes(Box::new(move || drop(BoardPlace { live: empty(), end }))));
     }
 
+    /// A fan of three over calls that this test makes: how many writes were asked for, and from which one on they are refused.
+    mod fanned {
+        use super::*;
+        use core::sync::atomic::{AtomicU32, Ordering::Relaxed};
+
+        pub struct Writes {
+            asked: AtomicU32,
+            refused_from: AtomicU32,
+        }
+
+        impl Writes {
+            pub fn begin(&self, refused_from: u32) {
+                self.asked.store(0, Relaxed);
+                self.refused_from.store(refused_from, Relaxed);
+            }
+
+            pub fn asked(&self) -> u32 {
+                self.asked.load(Relaxed)
+            }
+        }
+
+        pub static WRITES: Writes = Writes { asked: AtomicU32::new(0), refused_from: AtomicU32::new(0) };
+
+        unsafe extern "C" fn write(_: *mut Side, _: *const c_void) -> u32 {
+            let asked = WRITES.asked.fetch_add(1, Relaxed);
+            if asked < WRITES.refused_from.load(Relaxed) {
+                DONE
+            } else {
+                REFUSED
+            }
+        }
+
+        unsafe extern "C" fn end(_: *mut Side) -> u32 {
+            DONE
+        }
+
+        pub fn calls() -> &'static Calls {
+            let real = calls_for(24, false);
+            Box::leak(Box::new(Calls {
+                size: 24,
+                make: real.make,
+                write,
+                read: real.read,
+                look: real.look,
+                end_writer: end,
+                end_reader: end,
+            }))
+        }
+
+        pub fn sides() -> EachSide<3> {
+            let side = || WritingSide { live: Live { side: Side::EMPTY, order: Order::new() }, end };
+            EachSide { sides: [side(), side(), side()], is_cut_off: false }
+        }
+    }
+
+    #[test]
+    fn a_fan_s_write_is_refused_by_all_registers_or_by_none() {
+        use fanned::WRITES;
+        let (calls, mut sides) = (fanned::calls(), fanned::sides());
+        let mut write = || std::panic::catch_unwind(std::panic::AssertUnwindSafe(|| write_each(calls, &mut sides, &[1_u64; 3]))).ok();
+        WRITES.begin(u32::MAX);
+        assert_eq!((write(), WRITES.asked()), (Some(true), 3));
+        WRITES.begin(0);
+        assert_eq!((write(), write(), WRITES.asked()), (Some(false), Some(false), 2));
+        // One register alone can't refuse. If it did, no reader would get another record.
+        WRITES.begin(1);
+        assert_eq!((write(), WRITES.asked()), (None, 2));
+        WRITES.begin(u32::MAX);
+        assert_eq!((write(), WRITES.asked()), (None, 0));
+    }
+
     #[test]
     fn a_write_is_refused_when_numbers_are_used_up() {
         assert!(is_written(DONE));
-        assert!(!is_written(WORN_OUT));
+        assert!(!is_written(REFUSED));
     }
 
     /// The least of these sizes with room for this one.

@@ -30,7 +30,7 @@
 //! ```
 //!
 //! A side is used by the thread that has claimed it, until its claim is dropped. If that thread dies between two calls, others may claim the
-//! side, which is as it left it. If it dies within a call, each claim of that side is refused with [`Refused::OwnerDead`]; the others go on.
+//! side, which is as it left it. If it dies within a call, each claim of that side is refused with [`BlockError::OwnerDead`]; the others go on.
 //! Over four slots [`Register::recover_writer`] and [`Register::recover_reader`] take such a side over.
 //!
 //! The crate defines `nidzaru_allocate` and `nidzaru_release` with this feature, so the program doesn't.
@@ -38,11 +38,11 @@
 use crate::block::{self, Claim, Claimed, Handle, Item, Mapped, APART};
 use crate::boards::Stamp;
 use crate::raw::{self, BoardCalls, Calls};
-use crate::{FourSlot, Mechanism, TagsEnded, Triple, WornOut};
+use crate::{FourSlot, Mechanism, Refused, Triple};
 use core::fmt;
 use core::marker::PhantomData;
 
-pub use crate::block::Refused;
+pub use crate::block::BlockError;
 
 /// A record that may go between processes: it has no pointer, and its layout is the same in all programs.
 ///
@@ -184,7 +184,7 @@ impl<R: Root> Block<R> {
     /// Each process that opens the name, as one of this user may, is trusted: who writes the block can make the others do anything. None
     /// makes the block's file shorter.
     #[allow(unsafe_code)]
-    pub unsafe fn create(name: &str, bytes: usize) -> Result<Block<R>, Refused> {
+    pub unsafe fn create(name: &str, bytes: usize) -> Result<Block<R>, BlockError> {
         const { assert!(align_of::<R>() <= 4096, "what a block begins with is aligned to at most 4096") };
         Ok(Block { mapped: Mapped::create(name, R::AT, bytes, size_of::<R>(), Self::KIND)?, of: PhantomData })
     }
@@ -195,12 +195,12 @@ impl<R: Root> Block<R> {
     ///
     /// As of [`create`](Block::create).
     #[allow(unsafe_code)]
-    pub unsafe fn attach(name: &str) -> Result<Block<R>, Refused> {
+    pub unsafe fn attach(name: &str) -> Result<Block<R>, BlockError> {
         Ok(Block { mapped: Mapped::attach(name, size_of::<R>(), Self::KIND)?, of: PhantomData })
     }
 
     /// Lets others attach. The thread that made the block opens it.
-    pub fn open(&self) -> Result<(), Refused> {
+    pub fn open(&self) -> Result<(), BlockError> {
         self.mapped.open()
     }
 
@@ -214,7 +214,7 @@ impl<R: Root> Block<R> {
     }
 
     /// Takes away the name if it still is this block's. Those that have the block keep it.
-    pub fn unlink(&self, name: &str) -> Result<(), Refused> {
+    pub fn unlink(&self, name: &str) -> Result<(), BlockError> {
         self.mapped.unlink(name)
     }
 
@@ -257,21 +257,21 @@ pub struct Register<T: Record, M: Mechanism = FourSlot> {
 }
 
 impl<T: Record, M: Mechanism> Register<T, M> {
-    /// Makes the register, which holds `first`. Refused with [`Refused::InUse`] if it is made.
-    pub fn make<R: Root>(&self, block: &Block<R>, first: &T) -> Result<(), Refused> {
+    /// Makes the register, which holds `first`. BlockError with [`BlockError::InUse`] if it is made.
+    pub fn make<R: Root>(&self, block: &Block<R>, first: &T) -> Result<(), BlockError> {
         let [writer, reader] = &self.sides;
         let made = || block::make_sides(Known::<T, M>::CALLS, first, [writer, reader]);
         block.mapped.make(&self.item, &self.claims, Known::<T, M>::KIND, made)
     }
 
     /// Makes this thread the owner of the writing side.
-    pub fn claim_writer<'b, R: Root>(&'b self, block: &'b Block<R>) -> Result<Writer<'b, T, M>, Refused> {
+    pub fn claim_writer<'b, R: Root>(&'b self, block: &'b Block<R>) -> Result<Writer<'b, T, M>, BlockError> {
         let side = block.mapped.claim(&self.item, &self.claims[0], &self.sides[0], Known::<T, M>::KIND)?;
         Ok(Writer { side, of: PhantomData })
     }
 
     /// Makes this thread the owner of the reading side.
-    pub fn claim_reader<'b, R: Root>(&'b self, block: &'b Block<R>) -> Result<Reader<'b, T, M>, Refused> {
+    pub fn claim_reader<'b, R: Root>(&'b self, block: &'b Block<R>) -> Result<Reader<'b, T, M>, BlockError> {
         let side = block.mapped.claim(&self.item, &self.claims[1], &self.sides[1], Known::<T, M>::KIND)?;
         Ok(Reader { side, last: 0, of: PhantomData })
     }
@@ -281,16 +281,16 @@ impl<T: Record> Register<T> {
     /// As [`claim_writer`](Register::claim_writer), and takes over from an owner that died within a call: its write is done or never was.
     ///
     /// This is tested, and not proved. Over a triple buffer, and of a board, what a dead owner knew can't be told from what it shows.
-    pub fn recover_writer<'b, R: Root>(&'b self, block: &'b Block<R>) -> Result<Writer<'b, T>, Refused> {
+    pub fn recover_writer<'b, R: Root>(&'b self, block: &'b Block<R>) -> Result<Writer<'b, T>, BlockError> {
         self.recover(block, 0).map(|side| Writer { side, of: PhantomData })
     }
 
     /// As [`claim_reader`](Register::claim_reader), and takes over from an owner that died within a call.
-    pub fn recover_reader<'b, R: Root>(&'b self, block: &'b Block<R>) -> Result<Reader<'b, T>, Refused> {
+    pub fn recover_reader<'b, R: Root>(&'b self, block: &'b Block<R>) -> Result<Reader<'b, T>, BlockError> {
         self.recover(block, 1).map(|side| Reader { side, last: 0, of: PhantomData })
     }
 
-    fn recover<'b, R: Root>(&'b self, block: &'b Block<R>, which: usize) -> Result<Claimed<'b>, Refused> {
+    fn recover<'b, R: Root>(&'b self, block: &'b Block<R>, which: usize) -> Result<Claimed<'b>, BlockError> {
         let (kind, size) = (Known::<T, FourSlot>::KIND, Known::<T, FourSlot>::CALLS.size());
         block.mapped.recover(&self.item, &self.claims[which], &self.sides[which], kind, size, which == 0)
     }
@@ -305,8 +305,8 @@ pub struct Writer<'b, T: Record, M: Mechanism = FourSlot> {
 impl<T: Record, M: Mechanism> Writer<'_, T, M> {
     /// Shows the record to the reader, under the next number.
     #[inline]
-    pub fn write(&mut self, item: &T) -> Result<(), WornOut> {
-        crate::told(raw::write(Known::<T, M>::CALLS, self.side.live(), item))
+    pub fn write(&mut self, item: &T) -> Result<(), Refused> {
+        crate::written(raw::write(Known::<T, M>::CALLS, self.side.live(), item))
     }
 }
 
@@ -314,8 +314,8 @@ impl<T: Record> Writer<'_, T, Triple> {
     /// Fills the next record where it will lie, and shows it to the reader. What isn't filled is an older record's, or the opening's; after
     /// a killed owner also one that it filled in part.
     #[inline]
-    pub fn write_with(&mut self, fill: impl FnOnce(&mut T)) -> Result<(), WornOut> {
-        crate::told(raw::write_in_place(Known::<T, Triple>::CALLS, self.side.live(), fill))
+    pub fn write_with(&mut self, fill: impl FnOnce(&mut T)) -> Result<(), Refused> {
+        crate::written(raw::write_in_place(Known::<T, Triple>::CALLS, self.side.live(), fill))
     }
 }
 
@@ -390,16 +390,16 @@ pub struct Board<T: Record, const N: usize, M: Mechanism = FourSlot> {
 impl<T: Record, const N: usize, M: Mechanism> Board<T, N, M> {
     const KIND: u64 = Known::<T, M>::BOARD_KIND.wrapping_add(N as u64);
 
-    /// Makes the board, which holds `first`. Refused with [`Refused::InUse`] if it is made.
-    pub fn make<R: Root>(&self, block: &Block<R>, first: &T) -> Result<(), Refused> {
+    /// Makes the board, which holds `first`. BlockError with [`BlockError::InUse`] if it is made.
+    pub fn make<R: Root>(&self, block: &Block<R>, first: &T) -> Result<(), BlockError> {
         const { assert!(2 <= N && N <= 16, "a board has 2 to 16 places") };
         let made = || block::make_places(Known::<T, M>::BOARD_CALLS, first, &self.places);
         block.mapped.make(&self.item, &self.claims, Self::KIND, made)
     }
 
     /// Makes this thread the owner of the place with this number, from 0.
-    pub fn claim<'b, R: Root>(&'b self, block: &'b Block<R>, number: usize) -> Result<Place<'b, T, M>, Refused> {
-        let (claim, place) = self.claims.get(number).zip(self.places.get(number)).ok_or(Refused::NoSuch)?;
+    pub fn claim<'b, R: Root>(&'b self, block: &'b Block<R>, number: usize) -> Result<Place<'b, T, M>, BlockError> {
+        let (claim, place) = self.claims.get(number).zip(self.places.get(number)).ok_or(BlockError::NoSuch)?;
         let side = block.mapped.claim(&self.item, claim, place, Self::KIND)?;
         Ok(Place { side, last: Stamp::default(), of: PhantomData })
     }
@@ -415,8 +415,8 @@ pub struct Place<'b, T: Record, M: Mechanism = FourSlot> {
 impl<T: Record, M: Mechanism> Place<'_, T, M> {
     /// Puts the record under the next stamp above all that this place sees, and gives the stamp.
     #[inline]
-    pub fn write(&mut self, item: &T) -> Result<Stamp, TagsEnded> {
-        let mark = raw::write_place(Known::<T, M>::BOARD_CALLS, self.side.live(), item).ok_or(TagsEnded)?;
+    pub fn write(&mut self, item: &T) -> Result<Stamp, Refused> {
+        let mark = raw::write_place(Known::<T, M>::BOARD_CALLS, self.side.live(), item).ok_or(Refused)?;
         self.last = Stamp::new(mark.tag, mark.writer);
         Ok(self.last)
     }

@@ -1,7 +1,8 @@
 //! Boards: each call at the edges of the library's sizes, what it refuses, and threads at full speed.
 
 use nidzaru::{
-    board, board_over, limited_board, triple_board, BoardError, FourSlot, Mechanism, Place, Since, Stamp, TagsEnded, Triple, GREATEST_LIMIT,
+    board, board_over, limited_board, places, places_over, triple_board, BoardError, FourSlot, Mechanism, Place, Refused, Since, Stamp,
+    Triple, GREATEST_LIMIT,
 };
 use std::fmt::Debug;
 use std::sync::{Arc, Mutex};
@@ -48,6 +49,15 @@ fn each_call_at_each_size() {
 }
 
 #[test]
+fn as_many_places_as_an_array_has() {
+    let mut sixteen: [Place<u64>; 16] = places(1).unwrap();
+    let told = sixteen[15].write(&2).unwrap();
+    assert_eq!((told, sixteen[0].read()), (Stamp::new(1, 15), 2));
+    let [_, mut second] = places_over::<_, Triple, 2>(3).unwrap();
+    assert_eq!(second.read(), 3);
+}
+
+#[test]
 fn what_no_board_has_is_refused() {
     for n in [0, 1, 17, usize::MAX] {
         assert_eq!(board(n, 1).err(), Some(BoardError::Places));
@@ -64,7 +74,7 @@ fn what_no_board_has_is_refused() {
 fn tags_end_at_the_limit() {
     let mut places = limited_board::<_, Triple>(2, 2, 0).unwrap();
     assert!(places[0].write(&1).is_ok() && places[1].write(&2).is_ok());
-    assert_eq!((places[0].write(&3), places[0].stamp()), (Err(TagsEnded), Stamp::new(1, 0)));
+    assert_eq!((places[0].write(&3), places[0].stamp()), (Err(Refused), Stamp::new(1, 0)));
     assert_eq!((places[0].read(), places[1].read()), (2, 2));
 }
 

@@ -2,7 +2,7 @@
 
 use nidzaru::{
     board, board_over, library_version, register, register_over, triple_board, triple_register, BoardError, FourSlot, Mechanism,
-    OutOfMemory, Sides, Triple, WornOut,
+    OutOfMemory, Refused, Sides, Triple,
 };
 use std::cell::Cell;
 use std::ffi::c_void;
@@ -229,6 +229,7 @@ fn requests_for_memory_are_refused_in_turn() {
     }
     refuse(4, OutOfMemory, || register([1; 3]));
     refuse(4, OutOfMemory, || triple_register([1; 3]));
+    refuse(12, OutOfMemory, || nidzaru::fan::<_, 3>([1; 3]));
     refuse(8, BoardError::OutOfMemory, || board(3, [1; 3]));
     refuse(8, BoardError::OutOfMemory, || triple_board(3, [1; 3]));
 }
@@ -259,7 +260,7 @@ fn what_goes_gives_back_its_memory() {
 #[test]
 fn the_errors_say_what_was_refused() {
     assert_eq!(OutOfMemory.to_string(), "memory for a register was refused");
-    assert_eq!(WornOut.to_string(), "all numbers of a register are used");
+    assert_eq!(Refused.to_string(), "the limit refuses the write");
 }
 
 #[test]

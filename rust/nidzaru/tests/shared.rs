@@ -3,7 +3,7 @@
 
 #![cfg(feature = "shared")]
 
-use nidzaru::shared::{Block, Board, Reader, Refused, Register};
+use nidzaru::shared::{Block, BlockError, Board, Reader, Register};
 use nidzaru::Triple;
 use std::io::{Seek, SeekFrom, Write};
 use std::os::unix::fs::PermissionsExt;
@@ -68,7 +68,7 @@ fn make(test: &str) -> Made {
     Made { name, block }
 }
 
-fn attach(name: &str) -> Result<Block<Plant>, Refused> {
+fn attach(name: &str) -> Result<Block<Plant>, BlockError> {
     // The processes of this test open it.
     unsafe { Block::attach(name) }
 }
@@ -97,15 +97,15 @@ const OWNER_DEAD: i32 = 45;
 const ADDRESS_TAKEN: i32 = 46;
 const OTHER_USER: i32 = 47;
 
-fn code_of(why: &Refused) -> i32 {
+fn code_of(why: &BlockError) -> i32 {
     match why {
-        Refused::Claimed => CLAIMED,
-        Refused::OtherType => OTHER_TYPE,
-        Refused::OtherBuild => OTHER_BUILD,
-        Refused::NotReady => NOT_READY,
-        Refused::OwnerDead => OWNER_DEAD,
-        Refused::AddressTaken => ADDRESS_TAKEN,
-        Refused::OtherUser => OTHER_USER,
+        BlockError::Claimed => CLAIMED,
+        BlockError::OtherType => OTHER_TYPE,
+        BlockError::OtherBuild => OTHER_BUILD,
+        BlockError::NotReady => NOT_READY,
+        BlockError::OwnerDead => OWNER_DEAD,
+        BlockError::AddressTaken => ADDRESS_TAKEN,
+        BlockError::OtherUser => OTHER_USER,
         _ => 99,
     }
 }
@@ -122,7 +122,7 @@ fn another_process() {
     std::process::exit(code);
 }
 
-fn run(task: &str, name: &str) -> Result<(), Refused> {
+fn run(task: &str, name: &str) -> Result<(), BlockError> {
     if task == "other" {
         return unsafe { Block::<Other>::attach(name) }.map(|_| ());
     }
@@ -171,20 +171,20 @@ fn word_of(name: &str, at: usize) -> u64 {
 fn blocks_are_refused_by_name() {
     let _alone = alone();
     let Made { name, block } = &make("refused");
-    assert!(matches!(unsafe { Block::<Plant>::create(name, BYTES) }, Err(Refused::NameTaken)));
+    assert!(matches!(unsafe { Block::<Plant>::create(name, BYTES) }, Err(BlockError::NameTaken)));
     let second = format!("{name}-second");
-    assert!(matches!(unsafe { Block::<Plant>::create(&second, BYTES) }, Err(Refused::AddressTaken)));
-    assert!(matches!(attach(&second), Err(Refused::NoBlock)), "a name stays where no block was made");
-    assert!(matches!(unsafe { Block::<Other>::create(&second, 4096) }, Err(Refused::OutOfMemory)));
+    assert!(matches!(unsafe { Block::<Plant>::create(&second, BYTES) }, Err(BlockError::AddressTaken)));
+    assert!(matches!(attach(&second), Err(BlockError::NoBlock)), "a name stays where no block was made");
+    assert!(matches!(unsafe { Block::<Other>::create(&second, 4096) }, Err(BlockError::OutOfMemory)));
     for wrong in ["", "plant", "/", "/a/b", "/..", "/a\0"] {
-        assert!(matches!(attach(wrong), Err(Refused::NoSuch)), "{wrong:?}");
+        assert!(matches!(attach(wrong), Err(BlockError::NoSuch)), "{wrong:?}");
     }
     assert_eq!(ends_with("attach", name), NOT_READY);
-    std::thread::scope(|threads| threads.spawn(|| assert!(matches!(block.open(), Err(Refused::NotOwner)))).join().unwrap());
+    std::thread::scope(|threads| threads.spawn(|| assert!(matches!(block.open(), Err(BlockError::NotOwner)))).join().unwrap());
     block.open().unwrap();
-    assert!(matches!(block.open(), Err(Refused::NotOwner)));
+    assert!(matches!(block.open(), Err(BlockError::NotOwner)));
     assert_eq!(ends_with("attach", name), DONE);
-    assert!(matches!(attach(name), Err(Refused::AddressTaken)));
+    assert!(matches!(attach(name), Err(BlockError::AddressTaken)));
     assert_eq!(ends_with("other", name), OTHER_TYPE);
     let build = word_of(name, 8);
     change(name, 8, build ^ 1);
@@ -203,8 +203,8 @@ fn a_maker_that_died_is_told() {
     let _alone = alone();
     let name = format!("/nidzaru-maker-{}", std::process::id());
     assert_eq!(ends_with("create", &name), DONE);
-    assert!(matches!(attach(&name), Err(Refused::OwnerDead)));
-    assert!(matches!(attach(&name), Err(Refused::OwnerDead)), "once more");
+    assert!(matches!(attach(&name), Err(BlockError::OwnerDead)));
+    assert!(matches!(attach(&name), Err(BlockError::OwnerDead)), "once more");
     std::fs::remove_file(format!("/dev/shm{name}")).unwrap();
 }
 
@@ -214,12 +214,12 @@ fn sides_are_claimed_by_one_thread() {
     let Made { name, block } = &make("claims");
     let root = block.root();
     block.open().unwrap();
-    assert!(matches!(root.limits.make(block, &limits(1)), Err(Refused::InUse)));
-    assert!(matches!(root.later[1].claim_writer(block), Err(Refused::NotReady)));
-    assert!(matches!(root.turns.claim(block, 3), Err(Refused::NoSuch)));
+    assert!(matches!(root.limits.make(block, &limits(1)), Err(BlockError::InUse)));
+    assert!(matches!(root.later[1].claim_writer(block), Err(BlockError::NotReady)));
+    assert!(matches!(root.turns.claim(block, 3), Err(BlockError::NoSuch)));
     let mut writer = root.limits.claim_writer(block).unwrap();
     std::thread::scope(|threads| {
-        threads.spawn(|| assert!(matches!(root.limits.claim_writer(block), Err(Refused::Claimed)))).join().unwrap();
+        threads.spawn(|| assert!(matches!(root.limits.claim_writer(block), Err(BlockError::Claimed)))).join().unwrap();
     });
     assert_eq!(ends_with("write", name), CLAIMED);
     writer.write(&limits(5)).unwrap();
@@ -232,11 +232,11 @@ fn sides_are_claimed_by_one_thread() {
     // A register of another block isn't this one's.
     let other = format!("{name}-other");
     let second = unsafe { Block::<Other>::create(&other, BYTES) }.unwrap();
-    assert!(matches!(second.root().limits.make(block, &limits(1)), Err(Refused::Elsewhere)));
+    assert!(matches!(second.root().limits.make(block, &limits(1)), Err(BlockError::Elsewhere)));
     second.root().limits.make(&second, &limits(1)).unwrap();
-    assert!(matches!(second.root().limits.claim_reader(block), Err(Refused::Elsewhere)));
+    assert!(matches!(second.root().limits.claim_reader(block), Err(BlockError::Elsewhere)));
     second.unlink(&other).unwrap();
-    assert!(matches!(second.unlink(&other), Err(Refused::NoBlock)));
+    assert!(matches!(second.unlink(&other), Err(BlockError::NoBlock)));
 }
 
 #[test]
@@ -263,11 +263,11 @@ fn a_side_that_was_cut_off_is_refused() {
     let live = word_of(name, handle);
     assert!(live != 0 && live < 64, "the writer's number is {live}");
     change(name, handle as u64, 255);
-    assert!(matches!(root.limits.claim_writer(block), Err(Refused::OwnerDead)));
-    assert!(matches!(root.limits.claim_writer(block), Err(Refused::OwnerDead)), "the refused claim was given back");
+    assert!(matches!(root.limits.claim_writer(block), Err(BlockError::OwnerDead)));
+    assert!(matches!(root.limits.claim_writer(block), Err(BlockError::OwnerDead)), "the refused claim was given back");
     let at = word_of(name, handle + 8);
     change(name, handle as u64 + 8, at + 1);
-    assert!(matches!(root.limits.recover_writer(block), Err(Refused::OwnerDead)), "what leads nowhere isn't mended");
+    assert!(matches!(root.limits.recover_writer(block), Err(BlockError::OwnerDead)), "what leads nowhere isn't mended");
     change(name, handle as u64 + 8, at);
     root.limits.recover_writer(block).unwrap().write(&limits(1)).unwrap();
     assert_eq!(word_of(name, handle), live);
@@ -288,9 +288,9 @@ fn a_side_that_was_cut_off_is_refused() {
     change(name, handle as u64 + 96, 255);
     let mut reader = root.limits.recover_reader(block).unwrap();
     assert_eq!((reader.latest(), reader.number()), (limits(8), 8));
-    assert!(matches!(root.limits.recover_reader(block), Err(Refused::Claimed)));
+    assert!(matches!(root.limits.recover_reader(block), Err(BlockError::Claimed)));
     change(name, handle as u64, 0);
-    assert!(matches!(root.limits.claim_writer(block), Err(Refused::Ended)));
+    assert!(matches!(root.limits.claim_writer(block), Err(BlockError::Ended)));
     change(name, handle as u64, live);
     root.limits.claim_writer(block).unwrap().write(&limits(1)).unwrap();
 }
@@ -334,7 +334,7 @@ fn a_killed_writer_hinders_nobody() {
                 writer.write(&limits(root.seen.fetch_add(1, Ordering::Relaxed) + 1)).unwrap();
                 check(&mut reader, &mut number);
             }
-            Err(Refused::OwnerDead) if refused % 2 == 0 => {
+            Err(BlockError::OwnerDead) if refused % 2 == 0 => {
                 refused += 1;
                 let mut writer = register.recover_writer(block).unwrap();
                 check(&mut reader, &mut number);
@@ -344,7 +344,7 @@ fn a_killed_writer_hinders_nobody() {
                 assert_eq!((reader.latest(), reader.number()), (next, last + 1));
                 number = last + 1;
             }
-            Err(Refused::OwnerDead) => {
+            Err(BlockError::OwnerDead) => {
                 (uses, number, refused) = (uses + 1, 0, refused + 1);
                 root.later[uses].make(block, &limits(0)).unwrap();
                 reader = root.later[uses].claim_reader(block).unwrap();

@@ -1,6 +1,6 @@
 //! Two threads at full speed over each mechanism and several records: nothing torn, no number that falls, none below a look.
 
-use nidzaru::{register, triple_register, Mechanism, Sides, WornOut};
+use nidzaru::{register, triple_register, Mechanism, Refused, Sides};
 use std::sync::atomic::{AtomicU64, Ordering::SeqCst};
 use std::sync::Arc;
 use std::thread;
@@ -52,7 +52,7 @@ fn run<T: Copy + Send + PartialEq + 'static, M: Mechanism>(
                 }
             }
         }
-        Ok::<(), WornOut>(())
+        Ok::<(), Refused>(())
     });
     writing.join().unwrap().unwrap();
     let (seen, fresh, mut reader) = reading.join().unwrap();
