@@ -4,7 +4,7 @@ takes 15 to 30 processor seconds, and there are dozens. `./test` tries the first
     absurd.py [--headline N] [--definition NAME] [--max N] [--list] [--planted] [PATH[:NAME,NAME..] ..]
 
 A definition could be hollowed out where nobody looks: `7 < 0 →` before a part of it makes that part say nothing. The definitions are those
-of the reading sets of docs/HEADLINES.md that are propositions: records, of which each field's type is taken, and abbreviations, of which
+of the reading sets of docs/THEOREMS.md that are propositions: records, of which each field's type is taken, and abbreviations, of which
 each equation is. A conjunct is what stands between two × behind the last arrow, also in a λ. What is data isn't one, nor is `Unit`. Of a
 proposition with constructors each premise of these is one. The edits are made in a copy of theorem_uses and of what it stands on, which
 leaves out all functions but its laws, so that a check takes seconds. Each edit has a number of its own in its premise. All are tried at
@@ -224,10 +224,10 @@ def edits_of(path, name, numbers):
 
 def all_edits(headline, definition):
     """The edits of the definitions of a headline, or of all, each definition once."""
-    text, seen = Path(headlines.PAGES[0]).read_text(encoding="utf-8"), set()
-    for number, section in enumerate(re.split(r"(?m)^(?=## )", text)[1:], 1):
+    text, seen = Path(headlines.PAGE).read_text(encoding="utf-8"), set()
+    for number, section in re.findall(r"(?ms)^## (\d+)\. (.*?)(?=^## |\Z)", text):
         before, mark, _ = section.partition(headlines.MARK)
-        if not mark or headline not in (None, number):
+        if not mark or headline not in (None, int(number)):
             continue
         quotes = [(it[1], it[2].split("\n")) for it in headlines.QUOTE.finditer(before)]
         for path, names in sorted(headlines.reading_set(quotes).items()):

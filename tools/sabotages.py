@@ -1,10 +1,10 @@
 """By hand: faults planted in the tests themselves, each of which a test has to notice.
 
-    tools/sabotages.py [WORD..]      with words those alone whose names or tests have one of them
+    tools/sabotages.py [--prefix PREFIX] [WORD..]      with words those alone whose names or tests have one of them
 
 Each row is an edit of one file in a copy of the repository, over what is built here. The script below which it stands has to fail then, and
-passes over the copy as it is. An edit's old text stands once in its file; blanks match any others. What can't be run, since a program or a
-tool isn't there, is told. The last line is the sums.
+passes over the copy as it is; recorder.sh makes all its checks only with the PREFIX of an installed library. An edit's old text stands once in
+its file; blanks match any others. What can't be run, since a program or a tool isn't there, is told. The last line is the sums.
 """
 
 import argparse
@@ -20,6 +20,8 @@ OUTCOMES, CHECKS, TEST = "tests/gate/outcomes.sh", "tests/gate/checks.py", "test
 REFUSALS, DOCUMENTS, EXAMPLES = "tests/programs/refusals.sh", "tests/programs/documents.sh", "tests/programs/examples.sh"
 CONVERTERS, RECORDER, COMPARE = "tests/programs/converters.py", "tests/programs/recorder.sh", "tests/programs/reference/compare.py"
 FAILED = "failed=$((failed + 1))"
+# The installed library for recorder.sh, if there is one.
+PREFIX = []
 DOCUMENT_LIST = "for document in examples/*.json examples/*.jsonl tests/programs/schedules/*.json tests/programs/races/*.json; do"
 ONCE_IN_TREE = 'if cmp -s "$file" "$tree/$file"; then'
 WORDS_RUN = "run tests/programs/words.sh run tests/programs/refusals.sh"
@@ -88,12 +90,14 @@ ROWS = {
 
 
 def make_tree(folder):
-    """A copy of what git has, with what is built here."""
+    """A copy of what git has, with its times, so that what is built here is as fresh there."""
     for path in subprocess.run(["git", "ls-files", "-z"], cwd=TOP, capture_output=True, check=True).stdout.decode().split("\0")[:-1]:
         if not os.path.exists(f"{TOP}/{path}"):
             continue
         os.makedirs(os.path.dirname(f"{folder}/{path}"), exist_ok=True)
-        shutil.copy(f"{TOP}/{path}", f"{folder}/{path}")
+        shutil.copy2(f"{TOP}/{path}", f"{folder}/{path}")
+    for at, _, _ in os.walk(f"{folder}/crates"):
+        shutil.copystat(f"{TOP}/{os.path.relpath(at, folder)}", at)
     for crate in os.listdir(f"{TOP}/crates"):
         if os.path.isdir(f"{TOP}/crates/{crate}/out"):
             os.symlink(f"{TOP}/crates/{crate}/out", f"{folder}/crates/{crate}/out")
@@ -101,7 +105,8 @@ def make_tree(folder):
 
 def passes(folder, script):
     """Whether ./test passes over the copy, and what it says. (It may itself be what is wrong.)"""
-    done = subprocess.run(["./test", script], cwd=folder, capture_output=True, stdin=subprocess.DEVNULL, check=False)
+    words = [script, *PREFIX] if script == RECORDER else [script]
+    done = subprocess.run(["./test", *words], cwd=folder, capture_output=True, stdin=subprocess.DEVNULL, check=False)
     said = done.stdout.decode(errors="replace").splitlines()
     failed = [line for line in said if "FAILED" in line]
     return done.returncode == 0 and not failed, (failed or said or ["nothing"])[0]
@@ -139,8 +144,11 @@ def try_script(folder, script, rows):
 
 def main():
     parser = argparse.ArgumentParser(description=__doc__, formatter_class=argparse.RawDescriptionHelpFormatter)
+    parser.add_argument("--prefix")
     parser.add_argument("words", nargs="*", metavar="WORD")
-    words = parser.parse_args().words
+    given = parser.parse_args()
+    words = given.words
+    PREFIX[:] = [os.path.abspath(given.prefix)] if given.prefix else []
 
     def is_asked(script, row):
         return not words or any(word in row[0] or word in script for word in words)

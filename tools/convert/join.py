@@ -22,9 +22,10 @@ import sys
 
 import lines
 
-# A state of nidzaru_log.h: the magic, who, room, count, lost, unpaired, refused, turn, and of the write under way its kind, times, record and
-# place; and an operation: its kind, times and record.
-MAGIC, STATE, OPERATION = b"nidzaru\1", struct.Struct("=8s7Q6Q16x"), struct.Struct("=5Q")
+# A state of nidzaru_log.h: the magic, who, room, count, lost, unpaired, refused, turn, how many words of a record have room, and the place
+# of the write under way; behind it stands this write, and then the operations: kind, times, number and hash, and, if words have room, how
+# many are kept, and these.
+MAGIC, STATE = b"nidzaru\2", struct.Struct("=8s9Q48x")
 KINDS = (None, "write", "read", "refused")
 
 
@@ -45,20 +46,24 @@ class Operations:
         """The operations that ended, and a write that was under way."""
         if len(block) < STATE.size:
             raise lines.Refused(self.path, "a log that was cut off")
-        _, who, room, count, lost, unpaired, _, _, kind, begin, _, number, code, place = STATE.unpack_from(block)
-        if len(block) != STATE.size + room * OPERATION.size or count > room:
+        _, who, room, count, lost, unpaired, _, _, words, place = STATE.unpack_from(block)
+        size = 8 * (6 + words if words else 5)
+        if len(block) != STATE.size + (1 + room) * size or count > room:
             raise lines.Refused(self.path, "a log that was cut off")
         if lost or unpaired:
             raise lines.Refused(self.path, f"{lost} operations had no room, and {unpaired} began or ended out of turn")
-        for at in range(count):
-            self.take(who, *OPERATION.unpack_from(block, STATE.size + at * OPERATION.size))
+        operation = struct.Struct(f"={size // 8}Q")
+        kind, begin, _, *record = operation.unpack_from(block, STATE.size)
+        for at in range(1, count + 1):
+            self.take(who, *operation.unpack_from(block, STATE.size + at * size))
         if (place, kind) == (count, KINDS.index("write")):
-            self.take(who, kind, begin, None, number, code)
+            self.take(who, kind, begin, None, *record)
 
-    def take(self, who, kind, begin, end, number, code):
-        if not 1 <= kind < len(KINDS) or (end is not None and end < begin):
+    def take(self, who, kind, begin, end, number, code, kept=0, *words):
+        if not 1 <= kind < len(KINDS) or (end is not None and end < begin) or kept > len(words):
             raise lines.Refused(self.path, "this is no log")
-        self.rows.append({"who": who, "kind": KINDS[kind], "begin": begin, "end": end, "record": [number, code]})
+        row = {"who": who, "kind": KINDS[kind], "begin": begin, "end": end, "record": [number, code]}
+        self.rows.append({**row, "words": list(words[:kept])} if kept else row)
 
     def row_of(self, number, text):
         try:
@@ -111,8 +116,10 @@ def header_of(files, words):
         limits = {words.limit}
     if len(openings) != 1 or len(limits) > 1:
         raise lines.Refused(files[0].path, "the headers differ" if openings else "no file has a header: --opening says what the register held")
-    limit = next(iter(limits), None)
-    return {"kind": "lines", "opening": json.loads(*openings), **({} if limit is None else {"limit": limit})}
+    header = {"kind": "lines", "opening": json.loads(*openings)}
+    kept = next((it["words"] for it in headers if "words" in it and it.get("opening") == header["opening"]), None)
+    more = {"words": kept, "limit": next(iter(limits), None)}
+    return header | {key: it for key, it in more.items() if it is not None}
 
 
 def test_tasks(files):
