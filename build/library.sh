@@ -105,16 +105,16 @@ version_of_header() {
 }
 
 # The pages that go with the library: what the header cites, what that page's readers need next, the examples and the licences.
-library_pages='CHANGELOG.md LICENSE-MIT LICENSE-APACHE docs/C.md docs/PACKAGE.md docs/LANGUAGES.md docs/BOARD-USE.md docs/ASSUMPTIONS.md
-    docs/BOARD.md docs/pictures/handed_on.svg docs/pictures/board_written_cell.svg examples/c/tasks.c examples/c/tasks.cpp examples/c/board.c examples/c/own_memory.c
+library_pages='CHANGELOG.md LICENSE-MIT LICENSE-APACHE docs/C.md docs/INSTALL.md docs/RUST.md docs/ASSUMPTIONS.md
+    docs/BOARD.md docs/pictures/handed_on.svg docs/pictures/board_written_cell.svg examples/c/tasks.c examples/c/tasks.cpp examples/c/board.c examples/c/fan.c examples/c/own_memory.c
     examples/c/processes.c examples/c/processes.cpp examples/c/plugins.c examples/c/jack.c'
 
 # What the tests of an installed library need, which have a tar of their own.
-tests_alone='build c examples rust tests tools/convert tools/library_soak.sh tools/disturb.c docs/LANGUAGES.md'
+tests_alone='build c examples rust tests tools/convert tools/library_soak.sh tools/disturb.c docs/INSTALL.md'
 
 # Lays out the library with its headers and pages, and the script that installs them, in a new folder, an absolute path.
 lay_out() {
     mkdir -p "$1/lib" "$1/include" && make_library "$1/lib/libnidzaru.a" && sed "s/@MACHINE@/$machine/" "$top/packaging/install" >"$1/install" \
-        && cp "$top/c/nidzaru.h" "$top/c/nidzaru.hpp" "$top/c/nidzaru_log.h" "$top/c/nidzaru_shared.h" "$1/include/" \
+        && cp "$top/c/nidzaru.h" "$top/c/nidzaru.hpp" "$top/c/nidzaru_log.h" "$top/c/nidzaru_shared.h" "$top/c/nidzaru_shared.hpp" "$1/include/" \
         && python3 "$top/packaging/pages.py" "$1/share/doc/nidzaru" $library_pages
 }

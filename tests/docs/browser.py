@@ -40,6 +40,28 @@ class Browser:
         # (a browser that is handed a file by a relative path doesn't answer any more)
         return self.open(f"file://{os.path.abspath(path)}{suffix}", wide, high)
 
+    def waits_for(self, what, limit=20):
+        """Whether what is said of the page comes true within so many seconds."""
+        for _ in range(limit * 20):
+            if self.js(what):
+                return True
+            time.sleep(0.05)
+        return False
+
+    def looks(self, path, suffix, shot=None):
+        """What is wrong with a page on narrow screens and in dark colours. Pictures of it go to files that begin so."""
+        for wide, high in ((1100, 1000), (390, 844)):
+            for scheme in ("light", "dark"):
+                self.scheme(scheme)
+                self.open_file(path, suffix, wide, high)
+                if not self.js("document.documentElement.scrollWidth <= innerWidth"):
+                    yield f"the page is wider than {wide} pixels"
+                back = self.js("getComputedStyle(document.body).backgroundColor")
+                if (back == "rgb(255, 255, 255)") != (scheme == "light"):
+                    yield f"{scheme}: the page's colour is {back}"
+                if shot:
+                    self.keep_shot(f"{shot}_{self.title}_{scheme}_{wide}.png")
+
     def keep_shot(self, path, whole=False):
         """Keeps a picture of what is shown, or of the whole page, and gives its width and height."""
         data = base64.b64decode(self.shot(whole))

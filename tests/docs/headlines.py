@@ -1,10 +1,10 @@
-"""The headlines of docs/HEADLINES.md and the sections of docs/THEOREMS.md, each with the definitions that one has to read to know what it
-says.
+"""The headlines of docs/THEOREMS.md, whose titles begin with numbers, and its other sections, each with the definitions that one has to
+read to know what it says.
 
-    headlines.py               compares the reading sets of the pages with what is so, and says what differs: status 1
+    headlines.py               compares the reading sets of the page with the sources, and says what differs: status 1
     headlines.py --write       writes them anew
     headlines.py --names N     prints by file the definitions of the reading set of headline N
-    headlines.py --names PAGE  prints those of the quotations of each section of another page
+    headlines.py --names PAGE  prints those of the quotations of each section of a page
 
 A section has quotations, blocks that begin with ```LANGUAGE PATH, and numbers behind the mark `<!-- reading set -->`. The reading set of the quotations are the definitions of the repository's `specs/` that they name, those that these name, and so on, and the
 types of `src/` among them. Their lines, with their comments, and files are counted; what the kit defines isn't. The digest are eight hex
@@ -20,7 +20,7 @@ import sys
 from pathlib import Path
 
 TOP = os.path.dirname(os.path.dirname(os.path.dirname(os.path.realpath(__file__))))
-PAGES = f"{TOP}/docs/HEADLINES.md", f"{TOP}/docs/THEOREMS.md"
+PAGE = f"{TOP}/docs/THEOREMS.md"
 MARK = "<!-- reading set -->\n"
 QUOTE = re.compile(r"^```\w+ (\S+)\n(.*?)^```", re.S | re.M)
 USE = re.compile(r"^\s*(?:pub )?(?:ghost )?use Rattle\.(\w+)\.specs\.([\w.]+?)(?:\.\{(.*?)\}| as (\w+))", re.S | re.M)
@@ -29,6 +29,8 @@ TYPE = r"^pub (?:struct|enum|trait) %s\b"
 # A name, also an operator with its places.
 WORD = re.compile(r"[^\s(){}\[\],;.:]+")
 COMMENT = re.compile(r"(--|//).*")
+# How many lines several headlines have together, at the head of the page.
+TOGETHER = re.compile(r"(Headlines 4, 5, 6 and 8 together have \*\*)\d+(\*\* lines to read, all eight \*\*)\d+(\*\*)")
 # What a file takes from another, of the kit's too: the path, and the names in braces or another name for it.
 TAKEN = re.compile(r"^\s*(?:pub )?(?:ghost )?use ([\w.]+?)(?:\.\{(.*?)\}| as (\w+)|$)", re.S | re.M)
 
@@ -64,7 +66,7 @@ def depth_of(line):
 @functools.lru_cache(maxsize=None)
 def definitions(path):
     """By its name the numbers of the lines of each definition of a file of `specs/`, with the comment above; of a file of `src/` those of
-    each ghost member."""
+    each ghost member of a trait. (A struct's ghost fields stand in its lines, and two structs of a file may have one name for them.)"""
     if path.endswith(".rt"):
         return ghosts(path)
     found, block, lines = {}, [], lines_of(path)
@@ -90,7 +92,8 @@ def ghosts(path):
                 first -= 1
             while not lines[last].rstrip().endswith(("};", "},")):
                 last += 1
-            found[member[1]] = range(first, last + 1)
+            if lines[last].rstrip().endswith("};"):
+                found[member[1]] = range(first, last + 1)
     return found
 
 
@@ -223,35 +226,48 @@ def anew(section):
     return before.rstrip("\n") + "\n\n" + size_of(quotes) + "\n" + rest if quotes else section
 
 
-def compare(page, is_written):
-    """Compares the numbers of a page, or writes them: what differs, if anything, and how many sections have such."""
-    text = Path(page).read_text(encoding="utf-8")
+def lines_together(sections, numbers):
+    """How many lines one reads for the headlines of these numbers together, as their reading sets share definitions."""
+    found = set()
+    for section in sections:
+        if re.match(rf"## [{numbers}]\. ", section):
+            for path, names in reading_set(quotes_of(section.partition(MARK)[0])).items():
+                found |= {(path, it) for numbers_of_lines in names.values() for it in numbers_of_lines}
+    return len(found)
+
+
+def together_anew(text, sections):
+    """The head of the page with the numbers of lines of several headlines as they are."""
+    cells, every = lines_together(sections, "4568"), lines_together(sections, "1-8")
+    return TOGETHER.sub(rf"\g<1>{cells}\g<2>{every}\g<3>", text)
+
+
+def compare(is_written):
+    """Compares the numbers of the page, or writes them: what differs, if anything, and how many headlines and other sections have such."""
+    text = Path(PAGE).read_text(encoding="utf-8")
     sections = re.split(r"(?m)^(?=## )", text)
-    wanted = [anew(it) for it in sections]
+    wanted = [together_anew(sections[0], sections), *map(anew, sections[1:])]
     if is_written:
-        Path(page).write_text("".join(wanted).rstrip("\n") + "\n", encoding="utf-8")
+        Path(PAGE).write_text("".join(wanted).rstrip("\n") + "\n", encoding="utf-8")
     others = [old.split("\n")[0].removeprefix("## ") for old, new in zip(sections, wanted) if old.rstrip("\n") != new.rstrip("\n")]
-    return "; ".join(others), sum(MARK in it for it in wanted)
+    marked = [bool(re.match(r"## \d", it)) for it in wanted if MARK in it]
+    return "; ".join(others), marked.count(True), marked.count(False)
 
 
 def main(words):
     if words[:1] == ["--names"]:
-        which = words[1] if words[1:] else PAGES[0]
-        page, number = (PAGES[0], f"## {which}. ") if which.isdigit() else (which, "## ")
+        which = words[1] if words[1:] else PAGE
+        page, number = (PAGE, f"## {which}. ") if which.isdigit() else (which, "## ")
         for section in re.split(r"(?m)^(?=## )", Path(page).read_text(encoding="utf-8"))[1:]:
             if section.startswith(number) and quotes_of(section):
                 tell_names(section)
         return 0
-    found = {page: compare(page, words == ["--write"]) for page in PAGES}
+    others, headlines, sections = compare(words == ["--write"])
     if words == ["--write"]:
         return 0
-    counts = [count for _, count in found.values()]
-    for page, (others, _) in found.items():
-        if others:
-            print(f"{os.path.relpath(page, TOP)} has another reading set of {others}: read it, and run python3 tests/docs/headlines.py --write")
-    if not any(others for others, _ in found.values()):
-        print(f"the reading sets of {counts[0]} headlines and {counts[1]} sections of theorems are as the pages have them")
-    return 0 if all(counts) and not any(others for others, _ in found.values()) else 1
+    print(f"docs/THEOREMS.md has another reading set of {others}: read it, and run python3 tests/docs/headlines.py --write" if others else
+          f"the reading sets of {headlines} headlines and {sections} other sections are as the page has them")
+    return 0 if headlines and sections and not others else 1
 
 
 if __name__ == "__main__":

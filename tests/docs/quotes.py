@@ -2,7 +2,8 @@
 
     quotes.py [--count] FILE ..
 
-A block that begins with ```LANGUAGE PATH has to be a stretch of the file PATH, but for its indentation. A row `| `PATH` | N | ..`
+A block that begins with ```LANGUAGE PATH has to be a stretch of the file PATH, but for its indentation, or several in turn, with lines `// ..`
+between them. A row `| `PATH` | N | ..`
 of a table has to give the number of lines of PATH, or of files where PATH is a folder and ends with a slash; with --count these numbers are
 counted anew and written. Where a page says `PART` of `NAME`, or `NAME`, clause `PART`, some crate or item of this name has to have the
 part: a crate its items with their parts, a function its clauses, a type or trait its fields, variants and members, a definition of
@@ -49,8 +50,14 @@ def count_of(path):
 
 
 def stands_in(block, path):
-    lines = lines_of(path)
-    return any(lines[at : at + len(block)] == block for at in range(len(lines) - len(block) + 1))
+    """Whether the stretches of a block stand in a file, one behind the other."""
+    lines, begin = lines_of(path), 0
+    for stretch in "\n".join(block).split("\n// ..\n"):
+        part = stretch.split("\n")
+        begin = next((at + len(part) for at in range(begin, len(lines) - len(part) + 1) if lines[at : at + len(part)] == part), None)
+        if begin is None:
+            return False
+    return True
 
 
 def count_anew(document):

@@ -1,7 +1,7 @@
 # What README and the documents quote from the code has to stand there, so that they can't drift.
 if ! command -v python3 >/dev/null 2>&1; then
     fail "quotations" "there is no python3"
-elif python3 tests/docs/quotes.py README.md docs/*.md docs/dev/*.md >"$room/out" 2>&1; then
+elif python3 tests/docs/quotes.py README.md docs/*.md docs/dev/*.md crates/*/README.md >"$room/out" 2>&1; then
     pass "quotations: $(cat "$room/out")"
 else
     fail "quotations" "$(cat "$room/out")"
@@ -15,7 +15,8 @@ else
 fi
 if ! command -v python3 >/dev/null 2>&1; then
     fail "links" "there is no python3"
-elif python3 tests/docs/links.py README.md CHANGELOG.md CONTRIBUTING.md SECURITY.md docs/*.md docs/dev/*.md examples/README.md bench/README.md >"$room/out" 2>&1; then
+elif python3 tests/docs/links.py README.md CHANGELOG.md CONTRIBUTING.md SECURITY.md docs/*.md docs/dev/*.md examples/README.md bench/README.md crates/*/README.md \
+    >"$room/out" 2>&1; then
     pass "links: $(cat "$room/out")"
 else
     fail "links" "$(cat "$room/out")"
@@ -37,8 +38,10 @@ catches "a front page of 901 words" "it has 901 words" is_short "$room/long.md"
 # The controls: another word in a quotation, another number of files, parts that no source has, a changed definition in the reading set of
 # a headline with as many lines, and links that lead nowhere.
 if command -v python3 >/dev/null 2>&1; then
-    catches_in_tree "another word in a quotation" "docs/HEADLINES.md:.* isn't in crates/board_tasks/src/origin.rt" docs/HEADLINES.md \
-        '0,/pub fn check_origin</s//pub fn check_origins</' python3 tests/docs/quotes.py docs/HEADLINES.md
+    catches_in_tree "another word in a quotation" "docs/THEOREMS.md:.* isn't in crates/board_tasks/src/origin.rt" docs/THEOREMS.md \
+        '0,/pub fn check_origin</s//pub fn check_origins</' python3 tests/docs/quotes.py docs/THEOREMS.md
+    catches_in_tree "another word behind a cut in a quotation" "README.md:.* isn't in examples/c/small.c" README.md \
+        's/^if (samples_read(/if (samples_reads(/' python3 tests/docs/quotes.py README.md
     catches_in_tree "another number of files in a table" "tests/programs/races/ has [0-9]* files" docs/dev/TESTING.md \
         's/^\(| `tests\/programs\/races\/` | \)[0-9]*/\11/' python3 tests/docs/quotes.py docs/dev/TESTING.md
     catches_in_tree "a clause that another crate's function of this name has" "no source has .quiet. of .write." docs/BOARD.md \
@@ -53,10 +56,12 @@ if command -v python3 >/dev/null 2>&1; then
     catches_in_tree "a changed definition with as many lines" "another reading set of $first" \
         crates/history_core/specs/Orders.antt 's/^MayStand None Write times = times ≤ 1/MayStand None Write times = times ≤ 2/' \
         python3 tests/docs/headlines.py
-    catches_in_tree "a changed definition of a theorem that no headline is" "docs/THEOREMS.md has another reading set of 4. Running boards" \
+    catches_in_tree "a changed definition of a theorem that no headline is" "another reading set of Running boards" \
         crates/board_live/specs/Receipts.antt 's/^    pub time : family.time_of receipt.told ≤ /&1 + /' python3 tests/docs/headlines.py
-    catches_in_tree "a section of theorems without its numbers" "docs/THEOREMS.md has another reading set of 6. Through C" docs/THEOREMS.md \
-        '/^## 6/,$ { /reading set/d }' python3 tests/docs/headlines.py
+    catches_in_tree "a section of theorems without its numbers" "another reading set of Through C" docs/THEOREMS.md \
+        '/^## Through C/,$ { /reading set/d }' python3 tests/docs/headlines.py
+    catches_in_tree "another number of lines of several headlines" "another reading set of # The theorems" docs/THEOREMS.md \
+        's/together have [*][*][0-9]*/together have **7/' python3 tests/docs/headlines.py
     catches_in_tree "a name taken from elsewhere" "another reading set of $first" crates/history_core/specs/Orders.antt \
         's/^use Rattle.std.specs.List.{count_by/use Rattle.std.specs.Lists.{count_by/' python3 tests/docs/headlines.py
     catches_in_tree "a link to no file" "there is no CHANGES.md" README.md '0,/](CHANGELOG.md/s//](CHANGES.md/' \

@@ -8,7 +8,6 @@ import html
 import os
 import re
 import sys
-import time
 
 from browser import browsers
 from links import fault_of
@@ -57,17 +56,9 @@ def leads_nowhere(page):
         yield f"it has {len(links)} links alone"
 
 
-def waits_for(page, what):
-    for _ in range(200):
-        if page.js(what):
-            return True
-        time.sleep(0.05)
-    return False
-
-
 def steps_itself(page):
     page.js(LISTENS)
-    if not waits_for(page, "(window.told || '').length > 2"):
+    if not page.waits_for("(window.told || '').length > 2"):
         yield f"the mechanism doesn't step: {page.js('window.told')}"
 
 
@@ -81,26 +72,12 @@ def turns_tabs(page):
         yield "the arrow behind the last tab doesn't lead to the first"
 
 
-def looks(page, shots):
-    for wide, high in ((1100, 1000), (390, 844)):
-        for scheme in ("light", "dark"):
-            page.scheme(scheme)
-            page.open_file(PAGE, "", wide, high)
-            if not page.js("document.documentElement.scrollWidth <= innerWidth"):
-                yield f"the page is wider than {wide} pixels"
-            back = page.js("getComputedStyle(document.body).backgroundColor")
-            if (back == "rgb(255, 255, 255)") != (scheme == "light"):
-                yield f"{scheme}: the page's colour is {back}"
-            if shots:
-                page.keep_shot(f"{shots}/site_{page.title}_{scheme}_{wide}.png")
-
-
 def faults_in(kind, shots):
     page = kind()
     try:
         if page.open_file(PAGE) != "yes":
             return ["the page doesn't begin"]
-        faults = [*steps_itself(page), *turns_tabs(page), *looks(page, shots)]
+        faults = [*steps_itself(page), *turns_tabs(page), *page.looks(PAGE, "", shots and f"{shots}/site")]
         return faults + [f"the browser says {it}" for it in page.said()]
     finally:
         page.end()

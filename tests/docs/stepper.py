@@ -99,20 +99,12 @@ def steps_by_hand(page):
     yield from (f"back and forth led to {it}" for it in [page.js("location.hash")] if it != "#wwwrrr")
 
 
-def waits_for(page, what):
-    for _ in range(400):
-        if page.js(what):
-            return True
-        time.sleep(0.05)
-    return False
-
-
 def plays_itself(page):
     """How the page doesn't play the stories, the sleeping reader first: those are the steps of examples/."""
     with open(f"{TOP}/examples/stalled_reader.json", encoding="utf-8") as file:
         first = json.load(file)["steps"]
     page.open_file(PAGE)
-    if not waits_for(page, "steps.length > 1") or page.js("steps + undone") != first:
+    if not page.waits_for("steps.length > 1") or page.js("steps + undone") != first:
         yield f"it doesn't begin with the sleeping reader: {page.js('[steps, undone]')}"
     page.key("p")
     before = page.js("[playing, steps]")
@@ -120,26 +112,11 @@ def plays_itself(page):
     if page.js("[playing, steps]") != before or before[0]:
         yield "it goes on where it is to pause"
     page.js("$('speed').add(new Option('at once', 1)), $('speed').value = 1, $('play').click()")
-    if not waits_for(page, "story === 1"):
+    if not page.waits_for("story === 1"):
         yield "after the first story comes no other"
     page.key("w")
     if page.js("playing"):
         yield "it plays on after a step by hand"
-
-
-def looks(page, shots):
-    """Narrow screens and dark ones."""
-    for wide, high in ((1100, 1000), (390, 844)):
-        for scheme in ("light", "dark"):
-            page.scheme(scheme)
-            page.open_file(PAGE, "#wwwwwwwrrrr", wide, high)
-            if not page.js("document.documentElement.scrollWidth <= innerWidth"):
-                yield f"the page is wider than {wide} pixels"
-            back = page.js("getComputedStyle(document.body).backgroundColor")
-            if (back == "rgb(255, 255, 255)") != (scheme == "light"):
-                yield f"{scheme}: the page's colour is {back}"
-            if shots:
-                page.keep_shot(f"{shots}/stepper_{page.title}_{scheme}_{wide}.png")
 
 
 def page_faults(kind, states, fsr, shots):
@@ -152,7 +129,7 @@ def page_faults(kind, states, fsr, shots):
         faults = [f"{steps} leads to {got} and not to {state}" for (steps, state), got in zip(states.items(), found) if got != state]
         if faults:
             return faults
-        for part in (shows_as_played(page, fsr), steps_by_hand(page), plays_itself(page), looks(page, shots)):
+        for part in (shows_as_played(page, fsr), steps_by_hand(page), plays_itself(page), page.looks(PAGE, "#wwwwwwwrrrr", shots and f"{shots}/stepper")):
             faults += part
         return faults + [f"the browser says {it}" for it in page.said()]
     finally:

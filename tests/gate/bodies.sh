@@ -20,7 +20,7 @@ else
     python3 tests/gate/wrong_bodies.py --proved --edits tests/gate/right_bodies </dev/null >"$room/right" 2>&1
     for name in read_document/a_field_by_another_name read_document/a_goal_by_another_name history_check/a_lemma_by_another_name \
         history_check/a_comment_without_search matrix_core/spoils_another_function \
-        matrix_core/the_same_test_turned_round; do
+        matrix_core/the_same_test_turned_round object_core/spoils_what_another_law_is_of object_core/the_same_in_other_words; do
         if grep -qx "must-fail $name: NOT REFUSED" "$room/right"; then
             pass "$name spoils nothing that it names, and isn't taken for refused"
         else

@@ -14,6 +14,19 @@ are_laid_out $(find crates -name out -prune -o \( -name '*.rt' -o -name '*.antt'
 catches "a file in another layout" "planted.rt is not in the layout" are_laid_out crates/history_core/src/lib.rt "$room/planted.rt"
 catches "no file" "the layout of 0 files" are_laid_out
 
+# No crate has more long lines than the page of decisions allows.
+if ! command -v python3 >/dev/null 2>&1; then
+    fail "long lines" "there is no python3"
+else
+    if python3 tests/gate/lines.py >"$room/out" 2>&1; then
+        pass "$(cat "$room/out")"
+    else
+        fail "long lines" "$(head -n 3 "$room/out" | tr '\n' ' ')"
+    fi
+    catches_in_tree "a long line of a definition" "matrix_play has .* lines of .src/. and .specs/." crates/matrix_play/specs/MatrixRuns.antt \
+        "2s/^/-- $(printf '%0121d' 0)\n/" python3 tests/gate/lines.py
+fi
+
 # Scripts have no error that shellcheck knows, and the headers whose functions are no macros have the layout of .clang-format, where these
 # tools are.
 are_sound_scripts() {
@@ -38,7 +51,7 @@ if command -v shellcheck >/dev/null 2>&1; then
     catches "a script that doesn't end" "over 1 scripts" are_sound_scripts "$room/planted.sh"
 fi
 if command -v clang-format >/dev/null 2>&1; then
-    are_formatted c/nidzaru.hpp c/nidzaru_check.h c/nidzaru_log.h c/heap.c
+    are_formatted c/nidzaru.hpp c/nidzaru_shared.hpp c/nidzaru_check.h c/nidzaru_log.h c/heap.c
     cp .clang-format "$room/" && { cat c/heap.c && echo 'int  more;'; } >"$room/planted.c"
     catches "a C file in another layout" "over 1 files" are_formatted "$room/planted.c"
 fi

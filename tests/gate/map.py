@@ -1,11 +1,12 @@
 """The map of the crates by subject, made from crates.txt, whose headings are the subjects, and from the lines at each crate's head.
 
-    map.py           compares docs/dev/MAP.md with what is so, and says what differs: status 1
+    map.py           compares docs/dev/MAP.md with the crates, and says what differs: status 1
     map.py --write   writes it anew between its two marks
 
 The graph has the subjects, and leaves out an arrow if a longer way leads to the same one. Each crate is in one subject; in it the crates come
 by their height, the number of crates on the longest way below them. The words are the first sentence at the head of `lib.rt` or `main.rt`,
-up to its colon or comma. If a page of docs/ tells its reader to copy crates, all that they stand on have to be among them.
+up to its colon or comma. If a page of docs/ tells its reader to copy crates, all that they stand on have to be among them. The names in
+docs/architecture.svg have to be those of crates or files.
 """
 
 import glob
@@ -101,6 +102,17 @@ def wrong_copies():
             yield from (f"{name} doesn't copy {it}, on which others stand" for it in sorted(below - set(names)))
 
 
+def wrong_names(rows):
+    """What docs/architecture.svg names below a title that is neither a crate nor a file."""
+    with open(f"{TOP}/docs/architecture.svg", encoding="utf-8") as file:
+        below = re.findall(r'<text class="m"[^>]*>([^<]*)<', file.read())
+    names = [it for words in below for it in re.findall(r"[\w./]+", words) if "_" in it or "/" in it]
+    yield from (f"docs/architecture.svg names {it}, which is no crate" for it in names
+                if it not in rows and not glob.glob(f"{TOP}/{it}") and not glob.glob(f"{TOP}/c/{it}"))
+    if len(names) < 10:
+        yield f"docs/architecture.svg has {len(names)} names alone"
+
+
 def main(words):
     with open(MAP, encoding="utf-8") as file:
         text = file.read()
@@ -116,7 +128,7 @@ def main(words):
         with open(MAP, "w", encoding="utf-8") as file:
             file.write(before + MARKS[0] + wanted + MARKS[1] + after)
         return 0
-    faults += list(wrong_copies())
+    faults += [*wrong_copies(), *wrong_names(rows)]
     if rest != wanted + MARKS[1] + after:
         faults.append("docs/dev/MAP.md isn't the map of the crates as they are: run python3 tests/gate/map.py --write")
     print("\n".join(faults or [f"the map has the {len(rows)} crates as they are"]))

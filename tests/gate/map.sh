@@ -14,6 +14,8 @@ done
 if command -v python3 >/dev/null 2>&1; then
     catches_in_tree "another graph of the crates" "isn't the map of the crates" docs/dev/MAP.md 's/^graph TD/graph LR/' python3 tests/gate/map.py
     catches_in_tree "crates without a heading" "crates.txt has no heading above history_core" crates.txt 1d python3 tests/gate/map.py
+    catches_in_tree "a crate that the picture of the parts alone has" "names board_life, which is no crate" docs/architecture.svg \
+        's/board_live/board_life/' python3 tests/gate/map.py
     catches_in_tree "another number of wrong bodies" "other numbers than there are" docs/dev/TESTING.md \
         's/^\([0-9]* crates, \)[0-9]* wrong bodies/\1400 wrong bodies/' python3 tests/docs/numbers.py
     catches_in_tree "a name of two things" "IsVerdict is defined by" crates/matrix_core/specs/Stamps.antt \

@@ -6,8 +6,8 @@
 A wrong body is an edit crates/NAME/must-fail/*.edit, as `rt must-fail` takes it. A line `function: PATH` in it names each function that
 it spoils, by its path below the crate. `rt must-fail` makes a check of the whole crate for each edit. Here a check tries edits of
 different functions together, and proves these functions alone: a function is proved by the contracts of those that it calls, so what the
-prover says of its own goals doesn't depend on what else is spoilt. Edits that spoil several functions, and those that change one place,
-are tried one after the other.
+prover says of its own goals doesn't depend on what else is spoilt. Edits that spoil several functions, those that change one place, and
+those of a definition or a lemma, on which others may stand, are tried one after the other.
 
 First the functions of a crate, as they are, have to be proved in the same way; `--proved` says that the gate has just done so. An edit is
 refused where the prover then names a goal of its function that it did not prove, or an error in that function's proof that is more than a
@@ -61,6 +61,7 @@ OTHER = re.compile(r"(?:fn|logic|statements|library|crate|rattle) |(?:note|help|
 GONE = "has no field|has no module|has no `x`|is not in scope|was not admitted|not found|is no module|there is no module"
 GONE_NAME = re.compile(rf"^(?:`x`: )?.{{,60}}?(?:{GONE})")
 DEPENDS = re.compile(r"declarations? that depends? on `([^`]+)`, which was (?:rejected|not admitted)")
+UNCHECKED = re.compile(r" (?:was|were) not checked: (.+)$")
 QUOTED = re.compile(r"`[^`]*`")
 DECLARED = re.compile(r"`([^`]+)`:")
 IN_VAIN = re.compile(r"note: src/\S+: it is not proved that ")
@@ -95,6 +96,11 @@ class Edit:
             raise BadEdit("no line says which function it spoils")
         if not self.changes:
             raise BadEdit("it changes nothing")
+
+    def goes_with_others(self):
+        """Whether it spoils one function and its own proof, and nothing that others stand on."""
+        return len(self.functions) == 1 and all(
+            file.startswith("src/") or is_proof_of(proof_of(self.functions[0]), file) for file, _, _ in self.changes)
 
     def made_in(self, folder, texts):
         """These texts of files with the edit made in them; a file that isn't among them is read. None where a text stands there twice or is gone."""
@@ -178,19 +184,25 @@ def is_gone_name(told):
 
 
 def declared_by(told):
-    """The declaration that an error is of, without its module."""
-    declared = DECLARED.match(told)
-    return declared[1].rpartition(".")[2] if declared else None
+    """The declarations that an error is of, without their modules: its own, or those that weren't checked as they depend on another one."""
+    unchecked, declared = DEPENDS.search(told) and UNCHECKED.search(told), DECLARED.match(told)
+    names = unchecked[1].split(", ") if unchecked else [declared[1]] if declared else []
+    return {it.strip("`").rpartition(".")[2] for it in names}
 
 
 def roots_of(told, errors, passed=()):
-    """The errors that an error leads to: itself, or those of the declaration that it tells to have been rejected or not admitted."""
+    """The errors that an error leads to: itself, or those of the declaration that it tells to have been rejected or not admitted, also by
+    way of others that depend on that one."""
     depends = DEPENDS.search(told)
     if not depends:
         return [told]
     name = depends[1].rpartition(".")[2]
-    own = [it for _, it in errors if it not in (told, *passed) and declared_by(it) == name]
+    own = [it for _, it in errors if it not in (told, *passed) and name in declared_by(it)]
     return [root for it in own for root in roots_of(it, errors, (*passed, told))]
+
+
+def proof_of(function):
+    return f"proofs/{function.replace('::', '/')}"
 
 
 def is_proof_of(folder, where):
@@ -207,8 +219,7 @@ def refusal(crate, said, functions, by_goals=True):
     for function in functions:
         verdict = verdicts.get(f"{crate}::{function}", "")
         goals = OPEN_GOALS.search(verdict)
-        folder = f"proofs/{function.replace('::', '/')}"
-        errors = [root for where, it in told if is_proof_of(folder, where) for root in roots_of(it, told) if not is_gone_name(root)]
+        errors = [root for where, it in told if is_proof_of(proof_of(function), where) for root in roots_of(it, told) if not is_gone_name(root)]
         if by_goals and verdict.startswith("no proof") and goals:
             reasons.append(f"{function} has no proof of {goals[1]}")
         elif verdict.startswith("not proved" if by_goals else ("no proof", "not proved")) and errors:
@@ -276,9 +287,9 @@ class Room:
         first, *rest = edits
         chosen, texts = [first], first.made_in(self.crate.folder, {})
         taken = {*first.functions}
-        for edit in rest if len(first.functions) == 1 else []:
+        for edit in rest if first.goes_with_others() else []:
             made = edit.made_in(self.crate.folder, texts)
-            if made and len(edit.functions) == 1 and taken.isdisjoint(edit.functions):
+            if made and edit.goes_with_others() and taken.isdisjoint(edit.functions):
                 chosen, texts = [*chosen, edit], made
                 taken.update(edit.functions)
         return chosen, texts

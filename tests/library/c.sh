@@ -8,6 +8,7 @@ between=
 for cell in 24 triple_24 board_24 triple_board_24; do
     between="$between -Wl,--wrap=nidzaru_${cell}_make,--wrap=nidzaru_${cell}_write"
 done
+fanned="$wrapped -Wl,--wrap=nidzaru_24_write,--wrap=nidzaru_triple_24_write"
 strict='-Wall -Wextra -Wpedantic -Werror -pthread'
 
 # Runs what a command builds: its last line must be $wants.
@@ -206,6 +207,9 @@ test_in_c() {
     for family in '' -DTRIPLE; do
         run_here "c/tests/calls.c $family($c)" "$c" -std=c11 $strict -O2 $family c/tests/calls.c $wrapped $flags -o "$room/program"
     done
+    for family in '' -DTRIPLE; do
+        run_here "c/tests/fans.c $family($c)" "$c" -std=c11 $strict -O2 $family c/tests/fans.c $fanned $flags -o "$room/program"
+    done
     run_here "c/tests/board_edges.c ($c)" "$c" -std=c11 $strict -O1 c/tests/board_edges.c $wrapped $flags -o "$room/program"
     run_here "c/tests/aligned.c ($c)" "$c" -std=c11 $strict -O2 c/tests/aligned.c $flags -o "$room/program"
     for test in held loaned; do
@@ -247,7 +251,7 @@ test_in_c() {
     done
     # (it goes one instruction at a time by the trap flag of x86-64)
     if [ "$("$c" -dumpmachine | cut -d - -f 1)" = x86_64 ]; then
-        for kind in '' -DTRIPLE -DBOARD '-DBOARD -DTRIPLE'; do
+        for kind in '' -DTRIPLE -DBOARD '-DBOARD -DTRIPLE' -DFAN '-DFAN -DTRIPLE'; do
             wants='.* calls were cut off, .* and nothing was found'
             run_here "c/tests/cut_off.c $kind($c)" \
                 "$c" -std=c11 -D_GNU_SOURCE $strict -O2 $kind c/tests/cut_off.c $flags -o "$room/program"
@@ -260,6 +264,7 @@ test_in_c() {
     wants='no record was torn'
     run_here "examples/c/small.c ($c)" "$c" -std=c11 $strict -O2 examples/c/small.c $flags -o "$room/program"
     run_here "examples/c/tasks.c ($c)" "$c" -std=c11 $strict -O2 examples/c/tasks.c $flags -o "$room/program"
+    run_here "examples/c/fan.c ($c)" "$c" -std=c11 $strict -O2 examples/c/fan.c $flags -o "$room/program"
     run_here "examples/c/board.c ($c)" "$c" -std=c11 $strict -O2 examples/c/board.c $flags -o "$room/program"
     wants='.* bytes of the block were taken, all by make'
     run_here "examples/c/own_memory.c ($c)" "$c" -std=c11 $strict -O2 examples/c/own_memory.c $flags -o "$room/program"
@@ -285,6 +290,9 @@ test_in_cpp() {
         run_here "c/tests/boards.cpp ($cpp, C++$year)" \
             "$cpp" -std=c++$year $strict -O2 c/tests/boards.cpp $wrapped $flags -o "$room/program"
         run_here "c/tests/passed.cpp ($cpp, C++$year)" "$cpp" -std=c++$year $strict -O2 c/tests/passed.cpp $between $flags -o "$room/program"
+    done
+    for year in 17 20; do
+        run_here "c/tests/fans.cpp ($cpp, C++$year)" "$cpp" -std=c++$year $strict -O2 c/tests/fans.cpp $wrapped $flags -o "$room/program"
     done
     run_here "c/tests/aligned.cpp ($cpp)" "$cpp" -std=c++17 $strict -O2 c/tests/aligned.cpp $flags -o "$room/program"
     run_here "c/tests/bare.cpp, without exceptions ($cpp)" \

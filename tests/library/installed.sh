@@ -173,7 +173,7 @@ over_link() {
     rm "$clean/elsewhere/nidzaru_log.h"
     if [ "$1" = install ]; then install_to "$clean/listed" lib; else in_clean "$unpacked/install" --uninstall "$clean/listed"; fi
     said=$?
-    [ "$(ls "$clean/elsewhere" | tr '\n' ' ')" = 'nidzaru.h nidzaru.hpp nidzaru_shared.h ' ] || echo "it has reached outside"
+    [ "$(ls "$clean/elsewhere" | tr '\n' ' ')" = 'nidzaru.h nidzaru.hpp nidzaru_shared.h nidzaru_shared.hpp ' ] || echo "it has reached outside"
     return $said
 }
 

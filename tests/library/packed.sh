@@ -74,7 +74,7 @@ lists() {
     printf '%s\n' "$@" | LC_ALL=C sort >"$room/wanted" && LC_ALL=C sort "$listed" | diff - "$room/wanted"
 }
 
-headers='include/nidzaru.h include/nidzaru.hpp include/nidzaru_log.h include/nidzaru_shared.h'
+headers='include/nidzaru.h include/nidzaru.hpp include/nidzaru_log.h include/nidzaru_shared.h include/nidzaru_shared.hpp'
 
 # Whether a list of files is that of the library's tar.
 lists_tar() {
@@ -97,7 +97,8 @@ lists_crate() {
 }
 
 lists_programs() {
-    lists "$1" $(find examples -maxdepth 1 -type f) bin/fsr bin/picture docs/FORMATS.md docs/CHECKING.md docs/PICTURES.md BUILD-INFO LICENSE-MIT \
+    lists "$1" $(find examples -maxdepth 1 -type f) bin/fsr bin/picture docs/FORMATS.md docs/CHECKING.md BUILD-INFO LICENSE-MIT \
+        share/man/man1/fsr.1 share/man/man1/picture.1 share/bash-completion/completions/fsr \
         LICENSE-APACHE "nidzaru-programs-$version.spdx"
 }
 

@@ -13,7 +13,7 @@ is_as_old() {
 test_oldest_rust() {
     oldest=$(awk -F'"' '/^rust-version/ { print $2 }' rust/nidzaru/Cargo.toml)
     name="rust/nidzaru: Rust $oldest"
-    if grep -q "Rust, from $oldest on" docs/LANGUAGES.md; then
+    if grep -q "Rust, from $oldest on" docs/INSTALL.md; then
         pass "$name is the page's"
     else
         fail "$name is the page's" "it has another"
@@ -60,6 +60,29 @@ test_freestanding_in_rust() {
     else
         fail "planted: rust/freestanding over the crate with std" "another reason: $(grep -m 2 '^error' "$room/said" | tr '\n' ' ')"
     fi
+}
+
+# A program that holds a record of 8 KB takes no more of its memory for zeros than the next size of the library has.
+has_little_room() {
+    printf '%s\n' 'fn main() {' '    let (_writer, mut reader) = nidzaru::triple_register([0_u64; 1024]).unwrap();' \
+        '    println!("{}", reader.hold()[1023]);' '}' >"$room/rust/examples/held_room.rs"
+    if ! in_rust build --release --example held_room >"$room/said" 2>&1; then
+        fail "rust/nidzaru: the room of a held record" "it wasn't built: $(grep -m 1 '^error' "$room/said")"
+        return
+    fi
+    zeros=$(size "$room/target/release/examples/held_room" | awk 'NR == 2 { print $3 }')
+    if [ "$zeros" -lt 200000 ]; then
+        pass "rust/nidzaru: the room of a held record: $zeros bytes"
+    else
+        fail "rust/nidzaru: the room of a held record" "$zeros bytes"
+    fi
+}
+
+test_held_room() {
+    has_little_room
+    sed -i 's/any_record(size_of::<T>())/any_record(calls.size)/' "$room/rust/src/raw.rs"
+    catches "a record of 1 MB for each hold" '1[0-9]* bytes' has_little_room
+    cp rust/nidzaru/src/raw.rs "$room/rust/src/raw.rs" && rm "$room/rust/examples/held_room.rs"
 }
 
 # Sees that the pair of this word is a race.
@@ -139,6 +162,7 @@ if command -v cargo >/dev/null 2>&1; then
     else
         pass "rust/nidzaru over an older library"
     fi
+    test_held_room
     test_oldest_rust
     test_freestanding_in_rust
     test_races_in_rust

@@ -91,6 +91,40 @@ planted_recovery() {
     fi
 }
 
+# The classes with a fault, which their test has to refuse by this word.
+#   planted_class SED SAID
+planted_class() {
+    mkdir -p "$room/planted" && cp c/nidzaru_shared.h "$room/planted/" && sed "$1" c/nidzaru_shared.hpp >"$room/planted/nidzaru_shared.hpp"
+    if cmp -s c/nidzaru_shared.hpp "$room/planted/nidzaru_shared.hpp"; then
+        fail "planted: $1" "it changes nothing"
+    elif ! builds "$room/planted" c/tests/shared_objects.cpp g++ -std=c++17 -D_GNU_SOURCE -w -O2 -pthread; then
+        if [ "$2" = built ]; then pass "planted: $1"; else fail "planted: $1" "it wasn't built: $(grep -m 1 error "$room/built")"; fi
+    elif ! timeout 60 "$room/program" >"$room/said" 2>&1 && grep -q "^shared objects: $2" "$room/said"; then
+        pass "planted: $1"
+    else
+        fail "planted: $1" "it isn't seen, or for another reason: $(tail -n 1 "$room/said")"
+    fi
+}
+
+plant_class_faults() {
+    planted_class 's/~claimed() { yield(); }/~claimed() {}/' 'a claim that goes, and one again'
+    planted_class 's/at = std::exchange(from.at, nullptr);/at = from.at;/' 'a claim that is moved'
+    planted_class 's/        if (!status) at = nullptr;/        (void)status;/' 'a yield'
+    planted_class 's/^        if (status) return status;$/        (void)status;/' '.*'
+    planted_class 's/ C == cell::triple ? 0 : record::size;/ record::size;/' 'a recovery over a triple buffer'
+    planted_class 's/type(), size, side == 0);/type(), size, side == 1);/' 'a recovery'
+    planted_class 's/nidzaru_item_recover(block.at(), &item, &claims\[side\]/nidzaru_item_recover(block.at(), \&item, \&claims[0]/' 'a recovery of what'
+    planted_class 's/if (number >= N) return/if (number > N) return/' '.*'
+    planted_class 's/return last > before ? item : std::nullopt;/return item;/' 'news of a board'
+    planted_class 's/return has_news() ? latest() : std::nullopt;/return latest();/' news
+    planted_class 's/return !look(number) \&\& number > last;/return !look(number) \&\& number >= last;/' 'the opening'
+    planted_class 's/~shared_block() { detach(); }/~shared_block() {}/' 'a block in the place'
+    planted_class 's/Root::shared_name, sizeof(Root)/"", sizeof(Root)/' 'an attach of another type'
+    planted_class 's/if (block.head) return NIDZARU_IN_USE;//' 'a block in the place'
+    planted_class 's/    char apart\[NIDZARU_APART\];//' built
+    catches "an edit of a comment alone" "it isn't seen" planted_class '1s/ / more /' '.*'
+}
+
 # The same library, as another build of the version would be.
 other_build() {
     mkdir -p "$room/other" && (
@@ -182,6 +216,8 @@ try_headers() {
     for cpp in g++ clang++; do
         ! command -v "$cpp" >/dev/null 2>&1 \
             || program "c/tests/shared.c ($cpp)" 'each refusal is by its name' c/tests/shared.c "$cpp" -std=c++17 $refusals -x c++
+        ! command -v "$cpp" >/dev/null 2>&1 \
+            || program "c/tests/shared_objects.cpp ($cpp)" 'each object has its claim' c/tests/shared_objects.cpp "$cpp" -std=c++17 -D_GNU_SOURCE
     done
     program "examples/c/processes.c" '.* none was torn' examples/c/processes.c gcc -std=gnu11
 }
@@ -259,6 +295,7 @@ elif command -v gcc >/dev/null 2>&1; then
     control -DPLAIN 'a torn record'
     control -DSEQUENCE 'a read that waits for a dead process'
     plant_faults
+    plant_class_faults
     plant_recoveries
 fi
 echo "$passed passed, $failed failed"

@@ -28,22 +28,43 @@ def row(who, kind, begin, end, record):
     return json.dumps({"who": who, "kind": kind, "begin": begin, "end": end, "record": record}, separators=(",", ":")) + "\n"
 
 
+def with_words(text, *words):
+    """The line with these words."""
+    return text[:-2] + f',"words":{json.dumps(words, separators=(",", ":"))}' + text[-2:]
+
+
 def done(ops):
     return f'{{"kind":"done","ops":{ops}}}\n'
 
 
-def left(operations, under_way=(0, 0, 0, 0, 0, 0), room=None, count=None, lost=0, unpaired=0):
-    """What thread 4 left in a file, as nidzaru_log.h has it; an operation is its kind, times, number and hash, and so is the one under way,
-    with its place behind them."""
+def packed(words, kind, begin, end, number, code, *kept):
+    """An operation of a log whose records keep so many words."""
+    rest = [len(kept), *kept, *[0] * (words - len(kept))] if words else []
+    return struct.pack(f"={5 + len(rest)}Q", kind, begin, end, number, code, *rest)
+
+
+NO_OPERATION = (0, 0, 0, 0, 0)
+
+
+def left(operations, under_way=NO_OPERATION, place=0, room=None, count=None, lost=0, unpaired=0, words=0):
+    """What thread 4 left in a file, as nidzaru_log.h has it; an operation is its kind, times, number and hash, and the words that are kept."""
     room, count = room or len(operations), len(operations) if count is None else count
-    state = struct.pack("=8s7Q6Q16x", b"nidzaru\1", 4, room, count, lost, unpaired, 0, 0, *under_way)
-    return state + b"".join(struct.pack("=5Q", *it) for it in operations) + bytes(40 * (room - len(operations)))
+    state = struct.pack("=8s9Q48x", b"nidzaru\2", 4, room, count, lost, unpaired, 0, 0, words, place)
+    empty = [NO_OPERATION] * (room - len(operations))
+    return state + b"".join(packed(words, *it) for it in (under_way, *operations, *empty))
+
+
+def spoilt(block, at, byte):
+    return block[:at] + bytes([byte]) + block[at + 1:]
 
 
 WRITES = row(0, "write", 100, 110, 1) + row(0, "write", 200, 210, 2)
 READS = row(1, "read", 150, 160, 1) + row(1, "read", 190, 195, 1) + row(1, "read", 600, 610, 2)
 LEFT = [(1, 5, 9, 1, 77), (2, 10, 12, 1, 77)]
 LEFT_ROWS = row(4, "write", 5, 9, [1, 77]) + row(4, "read", 10, 12, [1, 77])
+# The same with the words 1 and 8 of the write, of three that have room, and none of the read.
+KEPT = [(*LEFT[0], 1, 8), LEFT[1]]
+KEPT_ROWS = with_words(row(4, "write", 5, 9, [1, 77]), 1, 8) + row(4, "read", 10, 12, [1, 77])
 # The words, the files' texts or bytes, and what has to come: a text, or what stands behind `join: FILE` on standard error.
 BY_HAND = [
     ([], [HEAD + WRITES + done(2), READS], HEAD + row(0, "write", 100, 110, 1) + row(1, "read", 150, 160, 1) + row(1, "read", 190, 195, 1)
@@ -69,11 +90,21 @@ BY_HAND = [
     ([], [HEAD + HEAD], ":2: a header behind the first line"),
     # a write, and a read of it; then what was under way: a write that hadn't ended, one that had, a read, and nothing that is known
     ([], [HEAD, left(LEFT)], HEAD + LEFT_ROWS + done(2)),
-    ([], [HEAD, left(LEFT, (1, 20, 0, 2, 88, 2), room=9)], HEAD + LEFT_ROWS + row(4, "write", 20, None, [2, 88]) + done(3)),
-    *[([], [HEAD, left(LEFT, under_way)], HEAD + LEFT_ROWS + done(2))
-      for under_way in ((1, 10, 0, 1, 77, 1), (2, 20, 0, 2, 88, 2), (9, 20, 0, 2, 88, 2))],
+    ([], [HEAD, left(LEFT, (1, 20, 0, 2, 88), 2, room=9)], HEAD + LEFT_ROWS + row(4, "write", 20, None, [2, 88]) + done(3)),
+    *[([], [HEAD, left(LEFT, under_way, place)], HEAD + LEFT_ROWS + done(2))
+      for under_way, place in (((1, 10, 0, 1, 77), 1), ((2, 20, 0, 2, 88), 2), ((9, 20, 0, 2, 88), 2))],
     *[([], [HEAD, block], ": a log that was cut off")
-      for block in (left(LEFT)[:-1], left(LEFT) + b"\0", left(LEFT)[:100], left(LEFT, count=3), left(LEFT, room=3)[:-40])],
+      for block in (left(LEFT)[:-1], left(LEFT) + b"\0", left(LEFT)[:100], left(LEFT, count=3), left(LEFT, room=3)[:-40],
+                    left(KEPT, words=3)[:-8], spoilt(left(KEPT, words=3), 64, 2))],
+    # words that were kept, also of a write that hadn't ended; no more than there is room for
+    ([], [HEAD, left(KEPT, words=3)], HEAD + KEPT_ROWS + done(2)),
+    ([], [HEAD, left(KEPT, (1, 20, 0, 2, 88, 2, 9, 10), 2, words=3)],
+     HEAD + KEPT_ROWS + with_words(row(4, "write", 20, None, [2, 88]), 2, 9, 10) + done(3)),
+    ([], [HEAD, spoilt(left(KEPT, words=3), 128 + 72 + 40, 4)], ": this is no log"),
+    # the opening's words, unless another opening is told
+    ([], [with_words(HEAD, 0, 5), with_words(WRITES, 2, 6), READS], with_words(HEAD, 0, 5) + row(0, "write", 100, 110, 1) + row(1, "read", 150, 160, 1)
+     + row(1, "read", 190, 195, 1) + with_words(row(0, "write", 200, 210, 2), 2, 6) + row(1, "read", 600, 610, 2) + done(5)),
+    (["--opening", "7"], [with_words(HEAD, 0, 5), WRITES], '{"kind":"lines","opening":7}\n' + WRITES + done(2)),
     ([], [HEAD, left(LEFT, lost=1)], ": 1 operations had no room, and 0 began or ended out of turn"),
     ([], [HEAD, left(LEFT, unpaired=1)], ": 0 operations had no room, and 1 began or ended out of turn"),
     *[([], [HEAD, left([operation])], ": this is no log") for operation in ((0, 5, 9, 1, 77), (4, 5, 9, 1, 77), (1, 9, 5, 1, 77))],

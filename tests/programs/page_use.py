@@ -91,7 +91,7 @@ STOPS = (
 PLANTED = {
     "examples": ('["good", "bad"][data.status]', '["good", "good"][data.status]', "is shown as good"),
     "links": ("lineAt(text, line - state.first + 1)", "lineAt(text, line - state.first)", "line 3 leads to"),
-    "times": ("ranked(small.text)", "small.text", "the picture of a log of an hour has"),
+    "times": ("drawn = ranked(small.text)", "drawn = document", "the picture of a log of an hour has"),
     "hands_in": ('new File([text], "pasted")', 'new File([text + " x"], "pasted")', "pasted over an example"),
     "by_link": ("packed(new TextEncoder().encode(text)", 'packed(new TextEncoder().encode(text + " ")', "a link leads to"),
     "long_run": ("const says = () => {", "const says = () => { for (const now = Date.now(); Date.now() < now + 150; );", "the longest gap is"),

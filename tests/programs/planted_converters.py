@@ -99,11 +99,29 @@ PLANTED = [
     ("tasks of two files", "join.py", "if owners.setdefault(who, it.path) != it.path:", "if False:", "joined"),
     ("headers that differ", "join.py", "if len(openings) != 1 or", "if not openings or", "joined"),
     ("a file that was cut off", "join.py", 'if row.get("ops") != len(self.rows):', "if False:", "joined"),
-    ("what a thread left that was cut off", "join.py", "if len(block) != STATE.size + room * OPERATION.size or count > room:", "if False:", "joined"),
+    ("what a thread left that was cut off", "join.py", "if len(block) != STATE.size + (1 + room) * size or count > room:", "if False:", "joined"),
     ("what a thread left without its state", "join.py", "if len(block) < STATE.size:", "if False:", "joined"),
     ("operations that had no room", "join.py", "if lost or unpaired:", "if False:", "joined"),
     ("a write that was under way", "join.py", '(place, kind) == (count, KINDS.index("write"))', "False", "joined"),
     ("a write that had ended as under way", "join.py", '(place, kind) == (count, KINDS.index("write"))', 'kind == KINDS.index("write")', "joined"),
+    ("words that were kept and are left out", "join.py", 'if kept else row', 'if False else row', "joined"),
+    ("words that nobody kept", "join.py", "list(words[:kept])", "list(words)", "joined"),
+    ("more words than have room", "join.py", "or kept > len(words):", "or False:", "joined"),
+    ("the words of another opening", "join.py", 'if "words" in it and it.get("opening") == header["opening"]', 'if "words" in it', "joined"),
+    ("a header without its words", "join.py", '"words": kept, "limit"', '"limit"', "joined"),
+    ("a record without words beside them", "explain.py", 'if "words" in row else None return', "if False else None\n    return", "explained"),
+    ("words of the first write that has one", "explain.py", "(len(places), it.begin) > best[at][:2]", "False", "explained"),
+    ("words of the latest write that has one", "explain.py", "(len(places), it.begin) > best[at][:2]", "it.begin > best[at][1]", "explained"),
+    ("a write that touches as one before", "explain.py", "if one.end < it.begin),", "if one.end <= it.begin),", "explained"),
+    ("the first write before", "explain.py", "before = max((one for", "before = min((one for", "explained"),
+    ("a write that touches the end as one behind", "explain.py", "if one.begin <= it.end and", "if one.begin < it.end and", "explained"),
+    ("a write that touches the begin as one before", "explain.py", "and one.end >= it.begin and", "and one.end > it.begin and", "explained"),
+    ("an operation beside itself", "explain.py", "and one is not it]", "]", "explained"),
+    ("what never ended as torn", "explain.py", "and it.end != NEVER and it.record not in", "and it.record not in", "explained"),
+    ("bytes in another order", "explain.py", 'word.to_bytes(8, "little")', 'word.to_bytes(8, "big")', "explained"),
+    ("the first bytes alone", "explain.py", "if first and last:", "if first:", "explained"),
+    ("writes that aren't counted", "explain.py", "if left[MOST:]:", "if False:", "explained"),
+    ("a write behind the end that ran with it", "explain.py", '"began behind its end" if it.begin > other.end else relation', "relation", "explained"),
     ("a stream that takes nothing, of join.py", "join.py", "sys.stdout.flush()", "pass", "joined"),
     ("a folder that is there", "lines.py", "exist_ok=True", "exist_ok=False", "streams"),
     ("a stream that takes nothing", "lines.py", "sys.stdout.flush()", "pass", "streams"),
@@ -133,11 +151,13 @@ def run(*words):
 
 
 def passes(folder, names):
-    """Whether these histories pass, and, if they are among them, what is joined and what is recorded in Python."""
-    histories = [name for name in names if name not in ("joined", "recorded")]
+    """Whether these histories pass, and, if they are among them, what is joined, explained and recorded in Python."""
+    histories = [name for name in names if name not in ("joined", "recorded", "explained")]
     well, said = run(f"{TOP}/tests/programs/converters.py", "--here", "--tools", folder, *histories) if histories else (True, "")
     if well and "recorded" in names:
         well, said = run(f"{TOP}/tests/programs/recorded.py", "--tool", folder)
+    if well and "explained" in names:
+        well, said = run(f"{TOP}/tests/programs/explained.py", "--tool", f"{folder}/explain.py")
     if well and "joined" in names:
         return run(f"{TOP}/tests/programs/joined.py", "--tool", f"{folder}/join.py", "--logs", "3")
     return well, said

@@ -115,6 +115,9 @@ passes() {
 test_in_c() {
     passes "c/tests/recorder.c ($c)" "$c" -std=c11
     passes "c/tests/recorder.c, without the fence ($c)" "$c" -std=c11 -DNIDZARU_LOG_FENCE=0
+    for words in 0 1 64; do
+        passes "c/tests/recorder.c, with $words words ($c)" "$c" -std=c11 -D_POSIX_C_SOURCE=200809L -DNIDZARU_LOG_WORDS=$words
+    done
     passes "c/tests/recorder.c, by clock_gettime ($c)" "$c" -std=c11 -D_POSIX_C_SOURCE=199309L -DNIDZARU_LOG_TSC=0
     for words in '' -DNIDZARU_LOG_FENCE=0 -DNIDZARU_LOG_TSC=0; do
         # (the instructions of ARM's counter are no functions, which a test could replace: c/tests/planted_log.py looks at them)
@@ -209,8 +212,11 @@ test_planted() {
     catches "a right log that is judged unlawful" "status 0" judges a '^unlawful' 1
     "$room/recorded" torn "$operations" >"$room/log" 2>/dev/null
     catches "a wrong log that is judged lawful" "status 1" judges a '^lawful$' 0
+    counts "explain.py of a recorded log" python3 tests/programs/explained.py "$room/log"
     "$room/recorded" seqlock "$operations" >"$room/right" 2>/dev/null
     cp "$room/right" "$room/log"
+    catches "a whole log that is explained as a torn one" "a recorded log: status 0: Each operation" \
+        counts a python3 tests/programs/explained.py "$room/log"
     for said in 'lawful:1:status 1' 'lawful or so:0:status 0' ':0:status 0'; do
         printf '#!/bin/sh\necho "%s"\nexit %s\n' "${said%%:*}" "$(echo "$said" | cut -d : -f 2)" >"$room/stub" && chmod +x "$room/stub"
         catches "a built judge that says '${said%:*}'" "${said##*:}" judges_by_stub a '^lawful$' 0
@@ -280,6 +286,7 @@ else
     done
     counts "converters" python3 tests/programs/converters.py
     counts "join.py" python3 tests/programs/joined.py
+    counts "explain.py" python3 tests/programs/explained.py
     counts "recorder.py" python3 tests/programs/recorded.py
     for planted in log,jepsen_keys.edn verdict,jepsen_keys.edn refusal,jepsen_cas.edn history,jepsen_cas.edn; do
         catches "a ${planted%,*} that isn't wanted" "${planted#*,}\|not compared" \

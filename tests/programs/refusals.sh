@@ -223,8 +223,9 @@ else
     sees_long order 'lawful\norder:' long_log 10000
     sees_long order 'document: range of ops' long_log 10001
     sees_long order 'document: kind' cat examples/lawful.json
-    sees_long order 'lawful\n0 operations, 0 unfinished, 1 records, 0 of them read; no last line `done`' long_header 4097
-    sees_long order 'lawful\n0 operations, 0 unfinished, 1 records, 0 of them read; no last line `done`' long_header 1048576
+    counts='0 operations, 0 unfinished, 1 records, 0 of them read; no last line `done`'
+    sees_long order "lawful\\nNothing was shown: there is no operation.\\n$counts" long_header 4097
+    sees_long order "lawful\\nNothing was shown: there is no operation.\\n$counts" long_header 1048576
     sees_long order 'line 1: no header of kind `lines`, and no document: longer than 1048576 bytes' long_header 1048577
     sees_long order 'line 1: no header of kind `lines`, and no document: not JSON' marked_header 40
     sees_long play 'schedule: no operation left at step 50000' long_cell 10000 0 100000

@@ -126,6 +126,41 @@ else
     fail "$title" "it doesn't name what order reads"
 fi
 
+# The man pages and the completion say what the programs say, and the completion of bash knows commands, flags and files.
+says_the_same() {
+    if ! has_program fsr || ! has_program picture; then
+        fail docs/man "fsr or picture wasn't built"
+    elif python3 tools/manual.py "$built/fsr/out/fsr" "$built/picture/out/picture" >"$room/out" 2>&1; then
+        pass "$(cat "$room/out")"
+    else
+        fail docs/man "$(head -n 3 "$room/out")"
+    fi
+}
+
+# What bash would complete the last of these words to.
+completes() {
+    bash -c '. docs/man/fsr.bash; COMP_WORDS=("$@") COMP_CWORD=$(($# - 1)); _fsr; echo "${COMPREPLY[*]}"' bash "$@"
+}
+
+# Sees that a word is completed so.
+#   completes_to WANTED WORDS..
+completes_to() {
+    wanted=$1
+    shift
+    if [ "$(completes "$@" 2>&1)" = "$wanted" ]; then
+        pass "bash completes $*"
+    else
+        fail "bash completes $*" "it gives $(completes "$@" 2>&1)"
+    fi
+}
+
+says_the_same
+catches_in_tree "another word in a man page" "docs/man/fsr.1 says other words" docs/man/fsr.1 's/Finds a lawful/Found a lawful/' \
+    python3 tools/manual.py "$(pwd)/$built/fsr/out/fsr" "$(pwd)/$built/picture/out/picture"
+completes_to order fsr or
+completes_to --small fsr order --s
+completes_to examples/lawful.json fsr check examples/lawful.j
+
 # Sees that `fsr` ends with this status and has what stands in $room/wanted on this stream and nothing on the other. Its input is a folder,
 # of which each read fails.
 #   ends_fsr STATUS STREAM WORDS..
@@ -243,7 +278,8 @@ printf '{"kind":"lines","opening":0}' >"$room/spaced.jsonl"
 cp "$room/spaced.jsonl" "$room/blanks.jsonl"
 head -c 1048576 /dev/zero | tr '\0' '\n' >>"$room/spaced.jsonl"
 head -c 1048576 /dev/zero | tr '\0' ' ' >>"$room/blanks.jsonl"
-echo '0 operations, 0 unfinished, 1 records, 0 of them read; no last line `done`' | sed '1i lawful' >"$room/wanted"
+printf 'lawful\nNothing was shown: there is no operation.\n0 operations, 0 unfinished, 1 records, 0 of them read; no last line `done`\n' \
+    >"$room/wanted"
 ends_fsr 0 out order "$room/spaced.jsonl"
 echo 'fsr: line 1: no header of kind `lines`, and no document: longer than 1048576 bytes' >"$room/wanted"
 ends_fsr 3 err order "$room/blanks.jsonl"
@@ -303,8 +339,8 @@ if [ -c /dev/full ]; then
 fi
 
 # Where a program can't be built the script ends with a status of its own, and says so on standard error alone.
-mkdir -p "$room/bare/docs/dev" "$room/bare/crates" && cp -r fsr picture soak crates.txt build "$room/bare/" \
-    && cp docs/dev/TESTING.md "$room/bare/docs/dev/"
+mkdir -p "$room/bare/docs/dev" "$room/bare/docs/man" "$room/bare/crates" && cp -r fsr picture soak crates.txt build "$room/bare/" \
+    && cp docs/dev/TESTING.md "$room/bare/docs/dev/" && cp docs/man/fsr.txt "$room/bare/docs/man/"
 for program in fsr picture soak; do
     title="./$program where it can't be built"
     PATH=/usr/bin:/bin "$room/bare/$program" 1 >"$room/out" 2>"$room/err" </dev/null
@@ -331,8 +367,8 @@ gives_unbuilt() {
 }
 
 mkdir -p "$room/bare/c" && cp c/nidzaru.h "$room/bare/c/"
-gives_unbuilt 0 'Usage: ./fsr check|order|play|race [FILE]' '' --help
-gives_unbuilt 2 '' 'Usage: ./fsr check|order|play|race [FILE]'
+gives_unbuilt 0 'Reads a document from a file' '' --help
+gives_unbuilt 2 '' 'Reads a document from a file'
 gives_unbuilt 0 "fsr $(awk '/^#define NIDZARU_VERSION_(MAJOR|MINOR|PATCH)/ { printf dot "%s", $3; dot = "." }' c/nidzaru.h)" '' --version
 title="./fsr with a closed standard error, where it can't be built"
 PATH=/usr/bin:/bin "$room/bare/fsr" race >"$room/out" 2>&- </dev/null

@@ -66,14 +66,15 @@ def told_by(command, text):
 
 
 def is_right(rule, reasons, opening, ops, status, text):
-    """Whether this was told: the rule, one of its reasons, by lines, and the four counts."""
+    """Whether this was told: the rule, one of its reasons, by lines, how little a lawful log shows, and the four counts."""
     unfinished, records = sum(it["end"] is None for it in ops), {opening} | {it["record"] for it in ops}
     given = {it["record"] for it in ops if it["kind"] == "read" and it["end"] is not None} - {opening}
     rows = text.splitlines()
     if not rows or rows[-1] != f"{len(ops)} operations, {unfinished} unfinished, {len(records)} records, {len(given)} of them read":
         return False
     if rule == "lawful":
-        return status == 0 and rows[0] == "lawful"
+        little = [] if given else ["Little was shown: less than 1 % of the records were read."]
+        return status == 0 and rows[:-1] == ["lawful", *little]
     words = rows[0].split(" ")
     return status == 1 and words[:2] == ["unlawful", rule] and tuple(int(it) - 2 for it in words[2:]) in reasons
 

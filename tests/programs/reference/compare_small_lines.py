@@ -23,7 +23,7 @@ import small_lines
 from compare import tell_endings
 
 NAMES = (lambda k: k, lambda k: [k], lambda k: [0, k], lambda k: f"record \u00e9 {k}", lambda k: [k] * 64)
-KEYS = ("who", "kind", "begin", "end", "record")
+KEYS = ("who", "kind", "begin", "end", "record", "key")
 WRONG = (None, -1, 1.5, "x", [], {}, [None], [[1]], [1] * 65, True, 18446744073709551616, "done", 0)
 
 
@@ -37,14 +37,14 @@ def name_of(source, style, value):
 def make_log(source):
     made, style = make_documents.log(source), source.randrange(len(NAMES))
     ops, ends = sorted(made["ops"], key=lambda each: each["begin"]), {}
-    told = []
+    told, key = [], source.choice(({}, {}, {"key": None}, {"key": 7}, {"key": "a"}, {"key": [1, 2]}))
     for each in ops:
         who = next((who for who in range(9) if ends.get(who, -1) is not None and ends.get(who, -1) < each["begin"]), 9)
         who = each["who"] if source.random() < 0.02 else who
         ends[who] = each.get("end")
         record = each.get("record")
         told.append({"who": who, "kind": each["kind"], "begin": each["begin"], "end": each.get("end"),
-                     "record": None if record is None else name_of(source, style, record[0])})
+                     "record": None if record is None else name_of(source, style, record[0]), **key})
     header = {"kind": "lines", "opening": name_of(source, style, 0)}
     if source.random() < 0.5 or any(each["kind"] == "refused" for each in told) and source.random() < 0.95:
         header["limit"] = made["limit"]

@@ -14,7 +14,7 @@ KINDS = ("write", "read", "refused")
 GREATEST = 2**64 - 1
 NEVER = float("inf")
 
-Operation = namedtuple("Operation", "line who kind begin end record")
+Operation = namedtuple("Operation", "line who kind begin end record key")
 
 
 class Refused(Exception):
@@ -86,9 +86,11 @@ def operation_of(number, found):
     must(end is None or is_whole(end), number, "shape of end")
     record = record_of(found["record"])
     must(record is not None or found["record"] is None, number, "shape of record")
+    key = record_of(found.get("key"))
+    must(key is not None or found.get("key") is None, number, "shape of key")
     must(end is None or end >= begin, number, "end before begin")
     must(record is not None or (end is None and kind != "write"), number, "law of record")
-    return Operation(number, who, kind, begin, end, record)
+    return Operation(number, who, kind, begin, end, record, key)
 
 
 def is_end(number, found, count, last):
@@ -126,6 +128,7 @@ def read_log(lines):
             log.ended = True
             break
         it = operation_of(number, found)
+        must(not log.ops or it.key == log.ops[0].key, number, "law of key")
         must(it.kind != "refused" or log.limit is not None, number, "missing limit")
         before = latest.get(it.who)
         if before and (before.end is None or it.begin <= before.end):
@@ -271,15 +274,30 @@ def answer(log):
             records = {it.record for it in named}
             shows.update({it.line: it for it in ops if it.kind == "write" and it.record in records})
         said = [f"unlawful {rule} {' '.join(str(it.line) for it in named)}", *[line_of(shows[line]) for line in sorted(shows)]]
+    else:
+        said += little(log)
     said.append(counts(log))
     return 1 if found else 0, "\n".join(said) + "\n"
+
+
+def records_of(log):
+    """The records, and those that a finished read gave but for the opening."""
+    records = {log.opening} | {it.record for it in log.ops if it.record is not None}
+    return records, {it.record for it in log.ops if it.kind == "read" and it.end is not None} - {log.opening}
+
+
+def little(log):
+    """What is said of a lawful log that shows little."""
+    records, given = records_of(log)
+    if not log.ops:
+        return ["Nothing was shown: there is no operation."]
+    return ["Little was shown: less than 1 % of the records were read."] if 100 * len(given) < len(records) else []
 
 
 def counts(log):
     """How many operations there are and how many are unfinished, how many records and how many a finished read gave but for the opening."""
     unfinished = sum(it.end is None for it in log.ops)
-    records = {log.opening} | {it.record for it in log.ops if it.record is not None}
-    given = {it.record for it in log.ops if it.kind == "read" and it.end is not None} - {log.opening}
+    records, given = records_of(log)
     cut = "" if log.ended else "; no last line `done`"
     return f"{len(log.ops)} operations, {unfinished} unfinished, {len(records)} records, {len(given)} of them read{cut}"
 

@@ -20,7 +20,7 @@ def answer(data):
     except Fault as fault:
         return "", f"fsr: {fault}\n", 3
     if rule == "lawful":
-        return "lawful\n" + counts(opening, ops, ended), "", 0
+        return "lawful\n" + foot(opening, ops, ended), "", 0
     return (rule, {tuple(place + 2 for place in reason) for reason in found}), "", 1
 
 
@@ -32,6 +32,14 @@ def take_write(opening, each, written, number):
     if each["record"] in written:
         raise Fault(f"line {number}: writes the record of line {written[each['record']]}")
     written[each["record"]] = number
+
+
+def foot(opening, ops, ended):
+    """What stands behind the verdict on a lawful log: how little is shown, if so, and the counts."""
+    every = {opening} | {each["record"] for each in ops if each["record"] is not None}
+    given = {each["record"] for each in ops if each["kind"] == "read" and each["end"] is not None and each["record"] != opening}
+    told = "" if len(given) / len(every) >= 0.01 else "Little was shown: less than 1 % of the records were read.\n"
+    return (told if ops else "Nothing was shown: there is no operation.\n") + counts(opening, ops, ended)
 
 
 def counts(opening, ops, ended):
@@ -85,10 +93,10 @@ def small(data, lines):
 def is_order_of_writes(data, text):
     """Whether a lawful log is told with the lines of its writes, in an order that belongs to a lawful one."""
     opening, limit, ops, ended = read(data)
-    head, foot = "lawful\nwrites:", "\n" + counts(opening, ops, ended)
-    if not text.startswith(head) or not text.endswith(foot):
+    head, end = "lawful\nwrites:", "\n" + foot(opening, ops, ended)
+    if not text.startswith(head) or not text.endswith(end):
         return False
-    told = [int(word) - 2 for word in text[len(head):-len(foot)].split()]
+    told = [int(word) - 2 for word in text[len(head):-len(end)].split()]
     return any(not searches.early_refusals(limit or 1, ops, order) and told == [place for place in order if ops[place]["kind"] == "write"]
                for order in searches.atomic_orders(opening, ops))
 
@@ -131,7 +139,7 @@ def read(data):
             check_end(value, number, len(ops), number == len(lines))
             ended = True
             break
-        ops.append(operation_of(value, number, limit))
+        ops.append(operation_of(value, number, ops[0]["key"] if ops else ..., limit))
         take_turn(ops, lasts, number)
         take_write(opening, ops[-1], written, number)
     return opening, limit, ops, ended
@@ -164,21 +172,26 @@ def check_end(value, number, count, last):
         raise Fault(f"line {number}: law of ops")
 
 
-def operation_of(value, number, limit):
+def operation_of(value, number, first_key, limit):
+    """The operation of a line, which has the key of the first operation."""
     who, kind, begin, end, record = (asked(value, key, number) for key in ("who", "kind", "begin", "end", "record"))
     found = None if record is None else record_of(record)
+    said = value.get("key")
+    own = None if said is None else record_of(said)
     for key, fits in (("who", is_whole(who)), ("kind", kind in ("write", "read", "refused") if isinstance(kind, str) else False),
                       ("begin", is_whole(begin)), ("end", end is None or is_whole(end)),
-                      ("record", record is None or found is not None)):
+                      ("record", record is None or found is not None), ("key", said is None or own is not None)):
         if not fits:
             raise Fault(f"line {number}: shape of {key}")
     if end is not None and end < begin:
         raise Fault(f"line {number}: end before begin")
     if found is None and (kind == "write" or end is not None):
         raise Fault(f"line {number}: law of record")
+    if first_key not in (..., own):
+        raise Fault(f"line {number}: law of key")
     if kind == "refused" and limit is None:
         raise Fault(f"line {number}: missing limit")
-    return {"who": who, "kind": kind, "begin": begin, "end": end, "record": found}
+    return {"who": who, "kind": kind, "begin": begin, "end": end, "record": found, "key": own}
 
 
 def asked(value, key, number):
