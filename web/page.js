@@ -171,12 +171,15 @@ const inUnits = (number, unit) => `${number.toFixed(number < 10 ? 1 : 0)} ${unit
 const sizeOf = bytes => (bytes < 1e3 ? `${bytes} bytes` : bytes < 1e6 ? inUnits(bytes / 1e3, "kB") : inUnits(bytes / 1e6, "MB"));
 const timeOf = ms => (ms < 1e3 ? inUnits(ms, "ms") : inUnits(ms / 1e3, "s"));
 
+// What an answer to a log in lines says beside its verdict: which line is wrong, or how little the log shows.
+const SAYS = /^(Lines? \d|(Little|Nothing) was shown)/;
+
 // The sentence of an answer: the program's own, where it prints one, else that of the picture.
 function sentenceOf(data, text) {
   if (data.kind === "race") return `${text.trim()}. A race needs threads, which a page hasn't: ./fsr race runs it.`;
   if (data.status > 1) return text;
   const lines = text.split("\n").filter(it => it);
-  const own = data.kind === "lines" && data.command !== "order --small" ? lines.find(it => /^Lines? \d/.test(it)) : undefined;
+  const own = data.kind === "lines" && data.command !== "order --small" ? lines.find(it => SAYS.test(it)) : undefined;
   const svg = data.picture && data.picture.of === "document" ? new TextDecoder().decode(data.picture.svg) : "";
   const drawn = /<text class="z" x="8" y="24">([^<]*)/.exec(svg);
   const first = data.command === "picture" || data.command === "play" || data.command === "order --small" ? "" : lines[0] || "";

@@ -20,14 +20,6 @@ function kindOf(bytes) {
   return undefined;
 }
 
-// A small log with the ranks of its times in place of the times, which say the same and can be drawn.
-function ranked(bytes) {
-  const text = new TextDecoder().decode(bytes), times = /("(?:begin|end)":)(\d+)/g;
-  const all = [...new Set([...text.matchAll(times)].map(it => it[2]))].sort((a, b) => (BigInt(a) < BigInt(b) ? -1 : 1));
-  const ranks = new Map(all.map((time, rank) => [time, rank]));
-  return new TextEncoder().encode(text.replace(times, (whole, key, time) => key + ranks.get(time)));
-}
-
 // The picture of what was asked, if it has one, and what it shows: the document, or of a log in lines the small log
 // without an order.
 function pictureOf({ command, kind, document, answer, bound }) {
@@ -38,7 +30,7 @@ function pictureOf({ command, kind, document, answer, bound }) {
     if (answer.status === 0) return null;
     const small = command === "order --small" ? answer : run(module, "order --small", document, bound);
     if (small.status !== 1) return null;
-    drawn = ranked(small.text);
+    drawn = small.text;
     of = "small";
   }
   const { status, text } = run(module, "picture", drawn, bound);

@@ -91,7 +91,8 @@ STOPS = (
 PLANTED = {
     "examples": ('["good", "bad"][data.status]', '["good", "good"][data.status]', "is shown as good"),
     "links": ("lineAt(text, line - state.first + 1)", "lineAt(text, line - state.first)", "line 3 leads to"),
-    "times": ("drawn = ranked(small.text)", "drawn = document", "the picture of a log of an hour has"),
+    "times": ("drawn = small.text", "drawn = document", "the picture of a log of an hour has"),
+    "little": ("(Little|Nothing) was shown", "Little was shown", "a log without an operation:"),
     "hands_in": ('new File([text], "pasted")', 'new File([text + " x"], "pasted")', "pasted over an example"),
     "by_link": ("packed(new TextEncoder().encode(text)", 'packed(new TextEncoder().encode(text + " ")', "a link leads to"),
     "long_run": ("const says = () => {", "const says = () => { for (const now = Date.now(); Date.now() < now + 150; );", "the longest gap is"),
@@ -190,6 +191,12 @@ class Use:
         self.needs(self.after(f"(put({json.dumps(far)}, ''), ask())"), "bad", "a log of an hour")
         wide = self.js("$('picture').naturalWidth")
         self.need(0 < wide < 2000, f"the picture of a log of an hour has {wide} points")
+
+    def little(self):
+        """A lawful log that shows nothing says so."""
+        self.after(f"(put({json.dumps(STALE.splitlines()[0])}, ''), ask())")
+        title, sentence, _, kind = self.shown()
+        self.need(kind == "good" and sentence.startswith("Nothing was shown"), f"a log without an operation: {title}. {sentence}")
 
     def hands_in(self):
         """Typing, a file, a drop, pasting and the keyboard."""
