@@ -6,3 +6,4 @@ pub mod Exact
 pub mod Adding
 pub mod Fronts
 pub mod Events
+pub mod TooMany
