@@ -35,3 +35,4 @@ mod Keeping
 mod CellsSoFar
 mod Rereading
 mod Beside
+mod Stale

@@ -24,5 +24,6 @@ pub mod Ends
 pub mod Passing
 pub mod Terms
 pub mod SoFar
+pub mod Stale
 pub mod OnePass
 pub mod Planned

@@ -1,5 +1,6 @@
 -- They are of the order with those that are left, and of their logs.
 use Rattle.theorem_uses.proofs.Beside.{logs_of_all, logs_with_some, writes_rise}
+use Rattle.theorem_uses.proofs.Stale.{stale_entries}
 use Rattle.theorem_uses.proofs.lost.some_passes_show.Goals as goal
 
 pub returns-clause-rises : goal.returns-clause-rises
@@ -7,6 +8,9 @@ returns-clause-rises g c = writes_rise g.F.Family
 
 pub returns-clause-logs : goal.returns-clause-logs
 returns-clause-logs g c = logs_with_some g.F.Family
+
+pub returns-clause-stale : goal.returns-clause-stale
+returns-clause-stale g c = stale_entries g.F.Family
 
 pub returns-clause-all : goal.returns-clause-all
 returns-clause-all g c = logs_of_all
