@@ -14,6 +14,7 @@ pub mod going;
 pub mod handles;
 pub mod heard;
 pub mod learnt;
+pub mod left;
 pub mod lent;
 pub mod logs;
 pub mod lost;

@@ -2,7 +2,7 @@
 use Rattle.std.proofs.Common.{◌≡◌, ℕ, ◌<◌, ◌≤◌, ◌∙◌, List, [], ◌∷◌, arith, ap, get_or, length, refl, slice_get, Some, sym}
 use Rattle.std.proofs.lemmas.Option.{get_or_from_slice_get, none-some, slice_get-get_or}
 use Rattle.theorem_uses.proofs.Stale.{stale_entries}
-use Rattle.theorem_uses.proofs.lost.read_back.Goals as goal
+use Rattle.theorem_uses.proofs.left.read_back.Goals as goal
 
 -- what is found at one of the first two places of the log
 found : {A : Type 0} (lent log : List A) (place : ℕ) (there it : A) → lent ≡ log → 2 ≤ length lent → place < 2 →
