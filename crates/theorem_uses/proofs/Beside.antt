@@ -16,7 +16,7 @@ use Rattle.board_tasks.specs.Lost.{is_lost, sees_what_may_be_known}
 use Rattle.board_tasks.specs.Origins.{is_known}
 use Rattle.board_tasks.specs.Worked.{EachTells}
 use Rattle.theorem_uses.specs.Lost.{BrokenBesideShow, LogsOfAllShow, LogsWithSomeShow, RunsBesideRise, RunsBesideShow, SoundBesideShow}
-use Rattle.theorem_uses.specs.Lost.{WithoutLostShows, WritesRiseWithSome}
+use Rattle.theorem_uses.specs.Lost.{SomeLanesShow, SomePassesShow, WithoutLostShows, WritesRiseWithSome}
 use Rattle.theorem_uses.proofs.Logged.{breaks, nothing, one}
 use Rattle.theorem_uses.proofs.SoFar.{stamps_rise_so_far}
 
@@ -41,6 +41,17 @@ module _ {V F S T : Type 0} (words : FamilyWords F (Posted V) S T) where
             let c = one e (h.calls lane.pass.process) (subst (λ z. EachTells z (h.calls lane.pass.process)) is told) in
             (c.0, c.1, c.2.0, c.2.1),
       )
+
+module _ {V F S T : Type 0} (words : FamilyWords F (Posted V) S T) (obeys : V → Bool) where
+  pub some_passes : SomePassesShow words obeys
+  some_passes board passes x p all at = all x p at
+
+  pub some_lanes : SomeLanesShow words obeys
+  some_lanes board lanes x y lane other h = (
+    h.some,
+    λ at. let w = h.each x lane at in (w.old, w.fresh, w.of, w.calls),
+    λ at_x at_y same apart. h.apart x y lane other at_x at_y apart same,
+  )
 
 not_lost : (lost known : Bool) → lost ≡ false → (lost || known) ≡ true → known ≡ true
 not_lost true known e is = cc

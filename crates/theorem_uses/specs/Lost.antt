@@ -9,15 +9,16 @@ use Rattle.board_history.specs.RunsSoFar.{end_of}
 use Rattle.board_live.specs.declared.board.Board.{Board}
 use Rattle.board_live.specs.declared.board.Pass.{Pass}
 use Rattle.board_live.specs.declared.record.Posted.{Posted}
-use Rattle.board_live.specs.Left.{HasOrderWith, HaveAtomicOrderWith, HaveMade}
+use Rattle.board_live.specs.Left.{HasOrderWith, HaveAtomicOrderWith, HaveMade, SomePasses}
+use Rattle.board_live.specs.Passes.{HasMade, IsPass}
 use Rattle.board_tasks.specs.declared.lane.Entry.{Entry}
 use Rattle.board_tasks.specs.declared.lane.Lane.{Lane}
 use Rattle.board_tasks.specs.declared.lane.Reply.TheVariants.{Seen}
 use Rattle.board_tasks.specs.declared.origin.Origin.TheVariants.{Sound, Broken}
-use Rattle.board_tasks.specs.Left.{AreAtomicLogsWith, AreLogsOfAll}
+use Rattle.board_tasks.specs.Left.{AreAtomicLogsWith, AreLogsOfAll, SomeHaveWorked}
 use Rattle.board_tasks.specs.Lost.{AreWithoutLost, is_lost, IsOriginBesideLost, may_have_origin}
 use Rattle.board_tasks.specs.Origins.{in_order, is_known, stamp_before}
-use Rattle.board_tasks.specs.Tasks.{kind_by}
+use Rattle.board_tasks.specs.Tasks.{AreCalls, kind_by}
 use Rattle.board_tasks.specs.Told.{AreOfRunBeside}
 use Rattle.board_tasks.specs.Worked.{HasChosenBy}
 use Rattle.theorem_uses.specs.Logs.{BreaksFirst}
@@ -41,6 +42,21 @@ module _ {V F S T : Type 0} (words : FamilyWords F (Posted V) S T) where
       × (lane.log.items ≡ [] → calls lane.pass.process ≡ [])
       × (lane.log.items ≡ e ∷ [] → (c : Called V) × (calls lane.pass.process ≡ c ∷ []) × (c.kind ≡ kind_by e.reply)
       × HasChosenBy e.wish e.reply c.chosen)
+
+module _ {V F S T : Type 0} (words : FamilyWords F (Posted V) S T) (obeys : V → Bool) where
+  -- some passes of a board are of that board
+  abbrev pub SomePassesShow : Type 0
+  SomePassesShow = (board : Board V F S T) (passes : List (Pass V F S T)) (x : ℕ) (p : Pass V F S T) →
+      SomePasses words obeys board passes → slice_get passes x ≡ Some p → IsPass words obeys board p
+
+  -- lanes that are left are some, no two of one process, and each has worked with a fresh pass
+  abbrev pub SomeLanesShow : Type 0
+  SomeLanesShow = (board : Board V F S T) (lanes : List (Lane V F S T)) (x y : ℕ) (lane other : Lane V F S T) →
+      SomeHaveWorked words obeys board lanes → (0 < length lanes)
+      × (slice_get lanes x ≡ Some lane → (old : Pass V F S T) × HasMade words board old []
+      × IsPass words obeys board lane.pass × AreCalls words obeys board old lane.log.items lane.pass)
+      × (slice_get lanes x ≡ Some lane → slice_get lanes y ≡ Some other → lane.pass.process ≡ other.pass.process →
+      x ≢ y → ⊥)
 
 module _ {V : Type 0} (equal : V → V → Bool) where
   -- in logs that are sound beside what is lost each entry is in order; and what a read saw, of a task whose log isn't

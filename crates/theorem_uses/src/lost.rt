@@ -1,14 +1,18 @@
 //! What is known of those that are left, where passes, lanes or logs were lost.
 ghost use Rattle.theorem_uses.specs.Lost.{BrokenBesideShow, LogsWithSomeShow, RunsBesideShow, SoundBesideShow};
 ghost use Rattle.theorem_uses.specs.Lost.{LogsOfAllShow, RunsBesideRise, WithoutLostShows, WritesRiseWithSome};
+ghost use Rattle.theorem_uses.specs.Lost.{SomeLanesShow, SomePassesShow};
 ghost use Rattle.theorem_uses.specs.Stale.{StaleBesideIsAbsurd, StaleEntriesAreAbsurd};
 
 use board_live::{Posted, RecordLaw};
 use cell_contract::Family;
 
-/// Of passes or lanes that are left, whoever was lost: stamps rise along intervals, each entry tells of one call, a
-/// read that saw a stale record is absurd, and the logs of all are theirs and empty ones.
+/// Of passes or lanes that are left, whoever was lost: they are of the board, and no two lanes are of one process;
+/// stamps rise along intervals, each entry tells of one call, a read that saw a stale record is absurd, and the logs of
+/// all are theirs and empty ones.
 pub fn some_passes_show<V: RecordLaw, F: Family<Posted<V>>>()
+    ensures passes { SomePassesShow ⟦<F as Family<Posted<V>>>⟧ V.obeys }
+    ensures lanes { SomeLanesShow ⟦<F as Family<Posted<V>>>⟧ V.obeys }
     ensures rises { WritesRiseWithSome ⟦<F as Family<Posted<V>>>⟧ }
     ensures logs { LogsWithSomeShow ⟦<F as Family<Posted<V>>>⟧ }
     ensures stale { StaleEntriesAreAbsurd ⟦<F as Family<Posted<V>>>⟧ }
