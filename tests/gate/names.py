@@ -23,7 +23,7 @@ TWINS = (
 # Names of one idea over two kinds of thing, as a call of a history and one of a running board, an operation of a register and one of any
 # object, or a slot that has what it was to get.
 OVER_TWO = {
-    "Accesses", "AreForwards", "EndsBefore", "IsBelow", "IsBoardRun", "IsCall", "IsCounted", "IsEarly", "IsFresh", "IsListing",
+    "Accesses", "AreForwards", "EndsBefore", "IsBelow", "IsBoardRun", "IsCounted", "IsEarly", "IsFresh", "IsListing",
     "IsReady", "IsReceipt", "KeepsPrecedence", "MayStand", "Precedes", "Sees", "ShowsAll", "WritesOnce",
 }
 

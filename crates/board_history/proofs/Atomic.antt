@@ -22,7 +22,7 @@ use Rattle.matrix_core.proofs.lists.Elements.{get_exists}
 use Rattle.matrix_core.proofs.orders.Terms.{term_atomic, term_lawful}
 use Rattle.board_history.specs.BoardRuns.{Called, Did, IsRegister, own_before, records, Sees, told}
 use Rattle.board_history.specs.RunsSoFar.{AreFirstOf, AreReadsSoFar, AreWritesSoFar, end_of, IsBoardRunSoFar}
-use Rattle.board_history.specs.HistoriesSoFar.{IsCallSoFar, IsHistorySoFar, IsUnchosenCall, StandIfChosen}
+use Rattle.board_history.specs.HistoriesSoFar.{IsOpOfCallSoFar, IsHistorySoFar, IsUnchosenCall, StandIfChosen}
 use Rattle.board_history.proofs.Rising.{first_least, greatest_each, greatest_first, greatest_is, own_next, own_rises, own_zero}
 use Rattle.board_history.proofs.Sorts.{sort, sort_in, Strict, strict_sort}
 use Rattle.board_history.proofs.Timed.{at, at_least, at_rises, at_tells, begin_once, begins, chooses_at, ends, lasts, line, times_at_most}
@@ -276,19 +276,19 @@ module _ {V : Type 0} (width n limit : ℕ) (opening : V) (steps : List ℕ) (di
       there : slice_get ops place ≡ Some op
       reported : slice_get stamps place ≡ Some stamp
       number : ℕ
-      is : IsCallSoFar width n did op stamp number
+      is : IsOpOfCallSoFar width n did op stamp number
       time : ℕ
       chose : slice_get (did op.who).times (at width n limit opening steps did run op.who number + ((n - 1) * width - 1)) ≡ Some time
 
     abbrev made_by : (p k : ℕ) (op : Op V) (stamp : Option Stamp) → slice_get ops p ≡ Some op →
-        slice_get stamps p ≡ Some stamp → IsCallSoFar width n did op stamp k → Made
+        slice_get stamps p ≡ Some stamp → IsOpOfCallSoFar width n did op stamp k → Made
     made_by p k op stamp e s is =
         let t = chooses_at width n limit opening steps did run op.who k is.call is.who is.made in
         record { place = p; op = op; stamp = stamp; there = e; reported = s; number = k; is = is; time = t.0; chose = t.1 }
 
     -- of an operation: the call that has chosen, or one that hasn't
     abbrev Which : Op V → Option Stamp → Type 0
-    Which op stamp = ((k : ℕ) × IsCallSoFar width n did op stamp k) ⊎ IsUnchosenCall width n did op stamp
+    Which op stamp = ((k : ℕ) × IsOpOfCallSoFar width n did op stamp k) ⊎ IsUnchosenCall width n did op stamp
 
     stamp_at : (p : ℕ) → p < length ops → (s : Option Stamp) × (slice_get stamps p ≡ Some s)
     stamp_at p l = get_exists stamps p (let long = h.long in omega arith)
@@ -383,8 +383,8 @@ module _ {V : Type 0} (width n limit : ℕ) (opening : V) (steps : List ℕ) (di
         time_at : (a b : Made) → a.place ≡ b.place → a.time ≡ b.time
         time_at a b e =
             let o : a.op ≡ b.op = same_Some a.op b.op (sym a.there ∙ ap (slice_get ops) e ∙ b.there) in
-            let x : IsCallSoFar width n did a.op a.stamp a.number = a.is in
-            let y : IsCallSoFar width n did b.op b.stamp b.number = b.is in
+            let x : IsOpOfCallSoFar width n did a.op a.stamp a.number = a.is in
+            let y : IsOpOfCallSoFar width n did b.op b.stamp b.number = b.is in
             let q = begin_once width n limit opening steps did run a.op.who b.op.who
             a.number b.number x.call y.call x.who y.who x.made y.made
             (sym x.begins ∙ ap (λ z. z.starts) o ∙ y.begins) in
@@ -396,8 +396,8 @@ module _ {V : Type 0} (width n limit : ℕ) (opening : V) (steps : List ℕ) (di
     -- of one time is one operation
     one_time : (a b : Made) → a.time ≡ b.time → a.place ≡ b.place
     one_time a b e =
-        let x : IsCallSoFar width n did a.op a.stamp a.number = a.is in
-        let y : IsCallSoFar width n did b.op b.stamp b.number = b.is in
+        let x : IsOpOfCallSoFar width n did a.op a.stamp a.number = a.is in
+        let y : IsOpOfCallSoFar width n did b.op b.stamp b.number = b.is in
         let o = times_once width n limit opening steps did run a.op.who b.op.who
         (at width n limit opening steps did run a.op.who a.number + ((n - 1) * width - 1))
         (at width n limit opening steps did run b.op.who b.number + ((n - 1) * width - 1)) a.time x.who y.who a.chose
@@ -458,7 +458,7 @@ module _ {V : Type 0} (width n limit : ℕ) (opening : V) (steps : List ℕ) (di
         let tz : z.0.time ≡ y.time = z.2 in
         let same : z.0.place ≡ y.place = one_time z.0 y tz in
         let o : z.0.op ≡ y.op = same_Some z.0.op y.op (sym z.0.there ∙ ap (slice_get ops) same ∙ y.there) in
-        let a : IsCallSoFar width n did z.0.op z.0.stamp z.0.number = z.0.is in
+        let a : IsOpOfCallSoFar width n did z.0.op z.0.stamp z.0.number = z.0.is in
         let b = begin_once width n limit opening steps did run z.0.op.who j z.0.number q a.call d a.who lj a.made e
         (sym a.begins ∙ ap (λ u. u.starts) o ∙ w.6.begins
         ∙ ap (λ (u : Called V). u.begin) (same_Some w.6.call d (sym w.6.made ∙ ap (λ i. slice_get (did i).calls q) who ∙ e))) in (
@@ -712,7 +712,8 @@ module _ {V : Type 0} (width n : ℕ) (did : ℕ → Did V) (ops : List (Op V)) 
   pub history_stands : (order : List ℕ) → IsInOrder ops stamps order → StandIfChosen ops stamps order
   history_stands order is p op stamp e s = is.listed p op stamp e s ∙ ap (λ b. if b then 1 else 0) (stands op stamp (h.each p op stamp e s))
     where
-      stands : (op : Op V) (stamp : Option Stamp) → ((k : ℕ) × IsCallSoFar width n did op stamp k) ⊎ IsUnchosenCall width n did op stamp →
+      stands : (op : Op V) (stamp : Option Stamp) →
+          ((k : ℕ) × IsOpOfCallSoFar width n did op stamp k) ⊎ IsUnchosenCall width n did op stamp →
           is_listed op stamp ≡ (is_some op.ends || (is_write op.kind && is_some stamp))
       stands op stamp (inl c) =
           ap (is_listed op) c.1.stamp ∙ ap (λ b. is_some op.ends || b) (sym (and_true (is_write op.kind)))

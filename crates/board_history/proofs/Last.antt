@@ -15,7 +15,7 @@ use Rattle.matrix_core.specs.Listings.{IsInOrder}
 use Rattle.matrix_core.proofs.lists.Elements.{get_exists}
 use Rattle.matrix_core.proofs.orders.Terms.{term_last}
 use Rattle.board_history.specs.BoardRuns.{Called, Did, IsBoardRun, own_before}
-use Rattle.board_history.specs.Histories.{IsCall, IsGreatestOwn, IsHistory, own_after}
+use Rattle.board_history.specs.Histories.{IsOpOfCall, IsGreatestOwn, IsHistory, own_after}
 use Rattle.board_history.proofs.Rising.{own_next, own_zero}
 use Rattle.board_history.proofs.Whole.{choices_there, own_rises}
 
@@ -58,7 +58,7 @@ module _ {V : Type 0} (width n limit : ℕ) (opening : V) (steps : List ℕ) (di
           ap (own_before (first_record opening) (did i).calls) (let e : length (did i).calls ≡ suc k = omega arith in e)
           ∙ own_next (first_record opening) (did i).calls k c.0 c.1 in
           let w = h.all i k c.0 l c.1 in
-          let call : IsCall n did w.1 w.2 k = w.6 in
+          let call : IsOpOfCall n did w.1 w.2 k = w.6 in
           let made : call.call ≡ c.0 = same_Some call.call c.0 (sym call.made ∙ ap (λ j. slice_get (did j).calls k) w.5 ∙ c.1) in
           let end = ended i k w.1 w.2 l w.5 call in
           let d = x.finished w.0 end.0 w.1 w.3 end.1 in
@@ -73,7 +73,7 @@ module _ {V : Type 0} (width n limit : ℕ) (opening : V) (steps : List ℕ) (di
           inr (d.0, d.1, stamp ∙ ap (λ z. z.stamp) (sym last), item ∙ ap (λ z. z.item) (sym last))
     ]
       where
-        ended : (i k : ℕ) (op : Op V) (stamp : Option Stamp) → i < n → op.who ≡ i → IsCall n did op stamp k →
+        ended : (i k : ℕ) (op : Op V) (stamp : Option Stamp) → i < n → op.who ≡ i → IsOpOfCall n did op stamp k →
             (end : ℕ) × (op.ends ≡ Some end)
         ended i k op stamp l who call = (call.call.end, call.ends)
 

@@ -13,7 +13,7 @@ use Rattle.matrix_core.specs.Stamps.{IsBelow, first_stamp}
 use Rattle.matrix_core.proofs.choices.Rise.{have_writes, HasWrite, one_write_each, stamps_rise, tags_rise}
 use Rattle.matrix_core.specs.Lines.{first_record}
 use Rattle.board_history.specs.BoardRuns.{Called, Did, IsBoardRun}
-use Rattle.board_history.specs.Histories.{ChoseFrom, IsCall, IsHistory}
+use Rattle.board_history.specs.Histories.{ChoseFrom, IsOpOfCall, IsHistory}
 use Rattle.board_history.proofs.Whole.{all_there, choices_there}
 
 module _ {V : Type 0} where
@@ -37,7 +37,7 @@ module _ {V : Type 0} (width n limit : ℕ) (opening : V) (steps : List ℕ) (di
     (run : IsBoardRun width n limit (first_record opening) steps did) (ops : List (Op V)) (stamps : List (Option Stamp))
     (h : IsHistory n did ops stamps) (choices : List (Choice V)) (x : HasChoices opening limit ops stamps choices) where
   matches : (i k : ℕ) (c : Called V) (op : Op V) (stamp : Option Stamp) (d : Choice V) → slice_get (did i).calls k ≡ Some c → op.who ≡ i →
-      IsCall n did op stamp k → slice_get ops d.place ≡ Some op → slice_get stamps d.place ≡ Some stamp → IsChoiceOf ops stamps d →
+      IsOpOfCall n did op stamp k → slice_get ops d.place ≡ Some op → slice_get stamps d.place ≡ Some stamp → IsChoiceOf ops stamps d →
       Matches ops d c
   matches i k c op stamp d e who call at stamp_at is =
       let made : call.call ≡ c = same_Some call.call c (sym call.made ∙ ap (λ j. slice_get (did j).calls k) who ∙ e) in
@@ -58,7 +58,7 @@ module _ {V : Type 0} (width n limit : ℕ) (opening : V) (steps : List ℕ) (di
   choice_of : (i k : ℕ) (c : Called V) → i < n → slice_get (did i).calls k ≡ Some c → (d : Choice V) × IsIn d choices × Matches ops d c
   choice_of i k c l e =
       let w = h.all i k c l e in
-      let call : IsCall n did w.1 w.2 k = w.6 in
+      let call : IsOpOfCall n did w.1 w.2 k = w.6 in
       let d = x.finished w.0 call.call.end w.1 w.3 call.ends in (
         d.0,
         d.1,
@@ -70,7 +70,7 @@ module _ {V : Type 0} (width n limit : ℕ) (opening : V) (steps : List ℕ) (di
   call_at d m =
       let is = x.each d m in
       let w = h.each d.place is.op (Some d.stamp) is.there is.reported in
-      let call : IsCall n did is.op (Some d.stamp) w.0 = w.1 in (
+      let call : IsOpOfCall n did is.op (Some d.stamp) w.0 = w.1 in (
         is.op.who,
         w.0,
         call.call,

@@ -25,7 +25,7 @@ use Rattle.matrix_core.specs.Listings.{IsInOrder, is_listed, MayPrecede}
 use Rattle.matrix_core.proofs.lists.Elements.{get_exists}
 use Rattle.matrix_core.proofs.orders.Places.{times_twice}
 use Rattle.board_history.specs.BoardRuns.{Called, Did, IsBoardRun, own_before}
-use Rattle.board_history.specs.Histories.{IsCall, IsGreatestOwn, IsHistory, own_after}
+use Rattle.board_history.specs.Histories.{IsOpOfCall, IsGreatestOwn, IsHistory, own_after}
 use Rattle.board_history.specs.OneRegister.{AreOfOne, IsOneOrder, Named, Takes}
 use Rattle.board_history.proofs.Last.{chosen_below}
 use Rattle.board_history.proofs.Rising.{first_least, own_next, own_zero}
@@ -187,7 +187,7 @@ module _ {V : Type 0} (width n limit : ℕ) (opening : V) (steps : List ℕ) (di
       pub ends : op.ends ≡ Some c.end
       pub reported : slice_get stamps p ≡ Some (Some c.chosen.stamp)
 
-    entry_by : (x p k : ℕ) (o : Op V) (stamp : Option Stamp) (call : IsCall n did o stamp k) → StandsAt ops order x p o →
+    entry_by : (x p k : ℕ) (o : Op V) (stamp : Option Stamp) (call : IsOpOfCall n did o stamp k) → StandsAt ops order x p o →
         slice_get stamps p ≡ Some stamp → Entry x p o.who k call.call
     entry_by x p k o stamp call at reported = record {
       op = o;
@@ -213,7 +213,7 @@ module _ {V : Type 0} (width n limit : ℕ) (opening : V) (steps : List ℕ) (di
     place_of : (i k : ℕ) (c : Called V) → i < n → slice_get (did i).calls k ≡ Some c → (x : ℕ) × (p : ℕ) × Entry x p i k c
     place_of i k c l e =
         let w = h.all i k c l e in
-        let call : IsCall n did w.1 w.2 k = w.6 in
+        let call : IsOpOfCall n did w.1 w.2 k = w.6 in
         let yes : is_listed w.1 w.2 ≡ true = subst (λ z. is_listed w.1 z ≡ true) (sym call.stamp)
         (listed_by w.1 call.call.end call.call.chosen.stamp call.ends) in
         let once : times_of w.0 order ≡ 1 = is.listed w.0 w.1 w.2 w.3 w.4 ∙ ap (λ b. if b then 1 else 0) yes in

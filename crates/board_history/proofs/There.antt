@@ -23,7 +23,7 @@ use Rattle.board_history.proofs.Members.{append_left, append_right, in_append, i
 use Rattle.matrix_core.proofs.orders.Listing.{get_map_back}
 use Rattle.board_history.specs.BoardRuns.{Called, Did}
 use Rattle.board_history.specs.RunsSoFar.{end_of, IsBoardRunSoFar, unchosen_begin}
-use Rattle.board_history.specs.HistoriesSoFar.{IsAtomicRunSoFar, IsCallSoFar, IsHistorySoFar, IsUnchosenCall}
+use Rattle.board_history.specs.HistoriesSoFar.{IsAtomicRunSoFar, IsOpOfCallSoFar, IsHistorySoFar, IsUnchosenCall}
 use Rattle.board_history.proofs.Atomic.{history_atomic, history_lawful, history_stands}
 use Rattle.board_history.proofs.Timed.{at, at_least, at_rises, begin_once, begins, line, times_once as one_time}
 use Rattle.board_history.proofs.Plans.{upto, upto_at}
@@ -216,7 +216,7 @@ module _ {V : Type 0} (width n limit : ℕ) (opening : V) (steps : List ℕ) (di
       (subst (λ z. IsIn (wait_entry i begin) (wait i z)) (sym e) (inl refl)))
 
   is_call : (i k : ℕ) (c : Called V) → i < n → slice_get (did i).calls k ≡ Some c →
-      IsCallSoFar width n did (call_entry i k c).op (call_entry i k c).stamp k
+      IsOpOfCallSoFar width n did (call_entry i k c).op (call_entry i k c).stamp k
   is_call i k c li e = record { who = li; call = c; made = e; kind = refl; item = refl; stamp = refl; begins = refl; ends = refl }
 
   is_waiting : (i begin : ℕ) → i < n → unchosen_begin width n (did i) ≡ Some begin →
@@ -314,10 +314,10 @@ module _ {V : Type 0} (width n limit : ℕ) (opening : V) (steps : List ℕ) (di
   many = (length-map sorted (λ e. e.op), length-map sorted (λ e. e.stamp))
 
   abbrev IsEither : Op V → Option Stamp → Type 0
-  IsEither op stamp = ((k : ℕ) × IsCallSoFar width n did op stamp k) ⊎ IsUnchosenCall width n did op stamp
+  IsEither op stamp = ((k : ℕ) × IsOpOfCallSoFar width n did op stamp k) ⊎ IsUnchosenCall width n did op stamp
 
   either_of : (e : Entry V) → IsCallEntry e ⊎ IsWaitEntry e → IsEither e.op e.stamp
-  either_of e (inl x) = inl (x.1, subst (λ z. IsCallSoFar width n did z.op z.stamp x.1) (sym x.5) (is_call x.0 x.1 x.2 x.3 x.4))
+  either_of e (inl x) = inl (x.1, subst (λ z. IsOpOfCallSoFar width n did z.op z.stamp x.1) (sym x.5) (is_call x.0 x.1 x.2 x.3 x.4))
   either_of e (inr x) = inr (subst (λ z. IsUnchosenCall width n did z.op z.stamp) (sym x.4) (is_waiting x.0 x.1 x.2 x.3))
 
   either_at : (p : ℕ) (op : Op V) (stamp : Option Stamp) → slice_get ops p ≡ Some op → slice_get stamps p ≡ Some stamp → IsEither op stamp

@@ -11,8 +11,8 @@ use Rattle.matrix_core.specs.Lines.{first_record}
 use Rattle.matrix_core.specs.Listings.{IsInOrder}
 use Rattle.matrix_core.proofs.lists.Elements.{get_exists}
 use Rattle.board_history.specs.BoardRuns.{Called, Did, IsBoardRun, IsProcess, own_before, steps_before, steps_of_call}
-use Rattle.board_history.specs.Histories.{IsCall, IsHistory}
-use Rattle.board_history.specs.HistoriesSoFar.{IsCallSoFar, IsHistorySoFar, IsUnchosenCall}
+use Rattle.board_history.specs.Histories.{IsOpOfCall, IsHistory}
+use Rattle.board_history.specs.HistoriesSoFar.{IsOpOfCallSoFar, IsHistorySoFar, IsUnchosenCall}
 use Rattle.board_history.specs.RunsSoFar.{end_of, IsBoardRunSoFar, IsProcessSoFar, unchosen_begin}
 use Rattle.board_history.proofs.Atomic.{choices_there as choices_so_far, history_atomic as atomic_so_far, history_lawful as lawful_so_far}
 use Rattle.board_history.proofs.Rising.{own_rises as rises_so_far}
@@ -87,7 +87,7 @@ module _ {V : Type 0} (width n limit : ℕ) (opening : V) (steps : List ℕ) (di
   own_rises = rises_so_far width n limit opening steps did whole_run
 
   module _ (ops : List (Op V)) (stamps : List (Option Stamp)) where
-    whole_call : (op : Op V) (stamp : Option Stamp) (k : ℕ) → IsCall n did op stamp k → IsCallSoFar width n did op stamp k
+    whole_call : (op : Op V) (stamp : Option Stamp) (k : ℕ) → IsOpOfCall n did op stamp k → IsOpOfCallSoFar width n did op stamp k
     whole_call op stamp k is = record {
       who = is.who;
       call = is.call;
@@ -108,7 +108,7 @@ module _ {V : Type 0} (width n limit : ℕ) (opening : V) (steps : List ℕ) (di
       rising = h.rising;
     }
 
-    call_whole : (op : Op V) (stamp : Option Stamp) (k : ℕ) → IsCallSoFar width n did op stamp k → IsCall n did op stamp k
+    call_whole : (op : Op V) (stamp : Option Stamp) (k : ℕ) → IsOpOfCallSoFar width n did op stamp k → IsOpOfCall n did op stamp k
     call_whole op stamp k is = record {
       who = is.who;
       call = is.call;
@@ -120,8 +120,9 @@ module _ {V : Type 0} (width n limit : ℕ) (opening : V) (steps : List ℕ) (di
       ends = is.ends ∙ ended op.who k is.call is.who is.made;
     }
 
-    each_whole : (op : Op V) (stamp : Option Stamp) → ((k : ℕ) × IsCallSoFar width n did op stamp k) ⊎ IsUnchosenCall width n did op stamp →
-        (k : ℕ) × IsCall n did op stamp k
+    each_whole : (op : Op V) (stamp : Option Stamp) →
+        ((k : ℕ) × IsOpOfCallSoFar width n did op stamp k) ⊎ IsUnchosenCall width n did op stamp →
+        (k : ℕ) × IsOpOfCall n did op stamp k
     each_whole op stamp (inl c) = (c.0, call_whole op stamp c.0 c.1)
     each_whole op stamp (inr u) = absurd (none_unchosen op.who op.starts u.who u.begins)
 

@@ -10,7 +10,7 @@ use Rattle.board_history.specs.BoardRuns.{Called, Did, own_before}
 
 module _ {V : Type 0} where
   -- the operation is call k of its process: it has the call's interval, its kind and the record that it chose
-  pub record IsCall (n : ℕ) (did : ℕ → Did V) (op : Op V) (chose : Option Stamp) (k : ℕ) : Type 0 where
+  pub record IsOpOfCall (n : ℕ) (did : ℕ → Did V) (op : Op V) (chose : Option Stamp) (k : ℕ) : Type 0 where
     pub who : op.who < n
     pub call : Called V
     pub made : slice_get (did op.who).calls k ≡ Some call
@@ -24,10 +24,10 @@ module _ {V : Type 0} where
   pub record IsHistory (n : ℕ) (did : ℕ → Did V) (ops : List (Op V)) (stamps : List (Option Stamp)) : Type 0 where
     pub long : length stamps ≡ length ops
     pub each : (p : ℕ) (op : Op V) (stamp : Option Stamp) → slice_get ops p ≡ Some op → slice_get stamps p ≡ Some stamp →
-        (k : ℕ) × IsCall n did op stamp k
+        (k : ℕ) × IsOpOfCall n did op stamp k
     pub all : (i k : ℕ) (c : Called V) → i < n → slice_get (did i).calls k ≡ Some c →
         (p : ℕ) × (op : Op V) × (stamp : Option Stamp) × (slice_get ops p ≡ Some op) × (slice_get stamps p ≡ Some stamp) × (op.who ≡ i)
-        × IsCall n did op stamp k
+        × IsOpOfCall n did op stamp k
     pub rising : (p q : ℕ) (a b : Op V) → slice_get ops p ≡ Some a → slice_get ops q ≡ Some b → p < q → a.starts < b.starts
 
   -- *Written*: what a call chose is the opening, or the record of a call that is a write

@@ -13,7 +13,7 @@ use Rattle.board_history.specs.RunsSoFar.{end_of, IsBoardRunSoFar, unchosen_begi
 
 module _ {V : Type 0} where
   -- the operation is call k of its process, which has chosen: it ends with the call's last step, if that is made
-  pub record IsCallSoFar (width n : ℕ) (did : ℕ → Did V) (op : Op V) (chose : Option Stamp) (k : ℕ) : Type 0 where
+  pub record IsOpOfCallSoFar (width n : ℕ) (did : ℕ → Did V) (op : Op V) (chose : Option Stamp) (k : ℕ) : Type 0 where
     pub who : op.who < n
     pub call : Called V
     pub made : slice_get (did op.who).calls k ≡ Some call
@@ -37,11 +37,11 @@ module _ {V : Type 0} where
     pub long : length stamps ≡ length ops
     pub each : (p : ℕ) (op : Op V) (stamp : Option Stamp) →
         slice_get ops p ≡ Some op → slice_get stamps p ≡ Some stamp →
-        ((k : ℕ) × IsCallSoFar width n did op stamp k) ⊎ IsUnchosenCall width n did op stamp
+        ((k : ℕ) × IsOpOfCallSoFar width n did op stamp k) ⊎ IsUnchosenCall width n did op stamp
     pub all : (i k : ℕ) (c : Called V) → i < n → slice_get (did i).calls k ≡ Some c →
         (p : ℕ) × (op : Op V) × (stamp : Option Stamp) × (slice_get ops p ≡ Some op)
         × (slice_get stamps p ≡ Some stamp) × (op.who ≡ i)
-        × IsCallSoFar width n did op stamp k
+        × IsOpOfCallSoFar width n did op stamp k
     pub unchosen : (i begin : ℕ) → i < n → unchosen_begin width n (did i) ≡ Some begin →
         (p : ℕ) × (op : Op V) × (stamp : Option Stamp) × (slice_get ops p ≡ Some op)
         × (slice_get stamps p ≡ Some stamp) × (op.who ≡ i)

@@ -25,7 +25,7 @@ use Rattle.board_history.proofs.cut_off.Parts.{part_before}
 use Rattle.board_history.proofs.Growing.{nothing_made}
 use Rattle.board_live.specs.declared.record.Posted.{Posted}
 use Rattle.board_live.specs.Plans.{answered_by, did_with, MakesCalls, written_by}
-use Rattle.board_live.specs.Records.{greatest, stamped}
+use Rattle.board_live.specs.Records.{greatest_posted, stamped}
 use Rattle.board_live.proofs.Accessing.{other_once, stays}
 use Rattle.board_live.proofs.Records.{stamped_greatest}
 use Rattle.board_live.proofs.Same.{same_process}
@@ -263,7 +263,7 @@ module _ {V : Type 0} (width n limit i : ℕ) (opening : Posted V) (two : 2 ≤ 
       ((e : ℕ) (answer : Posted V) → slice_get answers e ≡ Some answer →
       IsInterval width steps e (old.reads (other i e)).begins (old.reads (other i e)).ends (mid.reads (other i e)).begins
       (mid.reads (other i e)).ends × ((mid.reads (other i e)).items ≡ (old.reads (other i e)).items ++ answer ∷ [])) →
-      KeepsEach old.writes mid.writes → seen ≡ greatest own answers →
+      KeepsEach old.writes mid.writes → seen ≡ greatest_posted own answers →
       stamped own ≡ own_before (stamped opening) calls (length calls) →
       ((place : ℕ) → ChoosesByKind limit (record { place = place; who = i; kind = kind; stamp = item.stamp; item = item.item })
       kind seen.stamp seen.item) →

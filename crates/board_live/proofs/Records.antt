@@ -10,7 +10,7 @@ use Rattle.board_live.specs.declared.record.Posted.{Posted}
 use Rattle.matrix_core.specs.Choices.{IsAtMost}
 use Rattle.matrix_core.proofs.choices.Stamps.{at_most_trans, below_itself, greater_second}
 use Rattle.matrix_core.specs.Stamps.{greatest as greatest_stamped}
-use Rattle.board_live.specs.Records.{greater, greatest, Rises, rises_itself, rises_on, stamped}
+use Rattle.board_live.specs.Records.{greater, greatest_posted, Rises, rises_itself, rises_on, stamped}
 
 by_test : {V : Type 0} (a b : Posted V) (t : Bool) → stamped (if t then b else a) ≡ (if t then stamped b else stamped a)
 by_test a b true = refl
@@ -60,28 +60,28 @@ second_at_most : {V : Type 0} (a b : Posted V) → IsAtMost b.stamp (greater a b
 second_at_most a b = subst (λ z. IsAtMost b.stamp z.stamp) (sym (stamped_greater a b)) (greater_second (stamped a) (stamped b))
 
 pub stamped_greatest : {V : Type 0} (own : Posted V) (answers : List (Posted V)) →
-    stamped (greatest own answers) ≡ greatest_stamped (stamped own) (map stamped answers)
+    stamped (greatest_posted own answers) ≡ greatest_stamped (stamped own) (map stamped answers)
 stamped_greatest own [] = refl
 stamped_greatest own (x ∷ xs) = stamped_greatest (greater own x) xs
     ∙ ap (λ z. greatest_stamped z (map stamped xs)) (stamped_greater own x)
 
-pub rises_greatest : {V : Type 0} (own : Posted V) (answers : List (Posted V)) → Rises own (greatest own answers)
+pub rises_greatest : {V : Type 0} (own : Posted V) (answers : List (Posted V)) → Rises own (greatest_posted own answers)
 rises_greatest own [] = rises_itself own
 rises_greatest own (x ∷ xs) =
-    rises_on own (greater own x) (greatest (greater own x) xs) (rises_greater own x) (rises_greatest (greater own x) xs)
+    rises_on own (greater own x) (greatest_posted (greater own x) xs) (rises_greater own x) (rises_greatest (greater own x) xs)
 
 -- none of the answers is above the greatest
 pub least : {V : Type 0} (own : Posted V) (answers : List (Posted V)) (e : ℕ) (answer : Posted V) → slice_get answers e ≡ Some answer →
-    IsAtMost answer.stamp (greatest own answers).stamp
+    IsAtMost answer.stamp (greatest_posted own answers).stamp
 least own [] e answer h = absurd (none-some answer h)
-least own (x ∷ xs) zero answer h = subst (λ z. IsAtMost z.stamp (greatest (greater own x) xs).stamp) (same_Some x answer h)
-    (at_most_trans x.stamp (greater own x).stamp (greatest (greater own x) xs).stamp (second_at_most own x)
-    (rises_at_most (greater own x) (greatest (greater own x) xs) (rises_greatest (greater own x) xs)))
+least own (x ∷ xs) zero answer h = subst (λ z. IsAtMost z.stamp (greatest_posted (greater own x) xs).stamp) (same_Some x answer h)
+    (at_most_trans x.stamp (greater own x).stamp (greatest_posted (greater own x) xs).stamp (second_at_most own x)
+    (rises_at_most (greater own x) (greatest_posted (greater own x) xs) (rises_greatest (greater own x) xs)))
 least own (x ∷ xs) (suc e) answer h = least (greater own x) xs e answer h
 
 -- the greatest is the own record, or one of the answers
 pub greatest_from : {V : Type 0} (own : Posted V) (answers : List (Posted V)) →
-    (greatest own answers ≡ own) ⊎ ((e : ℕ) × (slice_get answers e ≡ Some (greatest own answers)))
+    (greatest_posted own answers ≡ own) ⊎ ((e : ℕ) × (slice_get answers e ≡ Some (greatest_posted own answers)))
 greatest_from own [] = inl refl
 greatest_from own (x ∷ xs) = elim (greatest_from (greater own x) xs) [
   | inl g ↦ elim (either_greater own x) [

@@ -16,7 +16,7 @@ use Rattle.board_live.specs.declared.board.Board.{Board}
 use Rattle.board_live.specs.declared.board.Pass.{Pass}
 use Rattle.board_live.specs.declared.board.Refused.{Refused}
 use Rattle.board_live.specs.declared.record.Posted.{Posted}
-use Rattle.board_live.specs.Records.{greatest, Rises, stamped}
+use Rattle.board_live.specs.Records.{greatest_posted, Rises, stamped}
 
 module _ {V : Type 0} where
   abbrev pub written_of : WriteAccesses (Posted V) → Written V
@@ -93,7 +93,7 @@ module _ {V F S T : Type 0} (family : FamilyWords F (Posted V) S T) where
     pub each : length answers + 1 ≡ board.processes
     pub answered : (e : ℕ) (answer : Posted V) → slice_get answers e ≡ Some answer →
         IsFurtherAnswer obeys board.first (family.reads old.seat (other old.process e)) (family.reads new.seat (other old.process e)) answer
-    pub is_seen : seen ≡ greatest old.own answers
+    pub is_seen : seen ≡ greatest_posted old.own answers
     pub known : IsKnown board old new seen
     pub heeds : (j : ℕ) → j < board.processes → j ≢ old.process → All (λ t. IsAtMost t.stamp seen.stamp) (family.reads old.seat j).told
     pub heard : (j : ℕ) → j < board.processes → j ≢ old.process → IsMindful (family.reads old.seat j) (family.reads new.seat j)

@@ -19,8 +19,8 @@ abbrev pub greater : {V : Type 0} → Posted V → Posted V → Posted V
 greater {V} = greater_by (λ (p : Posted V). p.stamp)
 
 -- the greatest of a record and of others, the first of equal stamps
-abbrev pub greatest : {V : Type 0} → Posted V → List (Posted V) → Posted V
-greatest {V} = greatest_by (λ (p : Posted V). p.stamp)
+abbrev pub greatest_posted : {V : Type 0} → Posted V → List (Posted V) → Posted V
+greatest_posted {V} = greatest_by (λ (p : Posted V). p.stamp)
 
 -- the item under this stamp, or the record where there is none
 abbrev pub or_item : {V : Type 0} → Posted V → Option Stamp → V → Posted V

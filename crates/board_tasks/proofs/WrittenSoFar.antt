@@ -10,7 +10,7 @@ use Rattle.matrix_core.specs.Lines.{first_record}
 use Rattle.matrix_core.proofs.choices.Rise.{have_writes}
 use Rattle.board_history.specs.BoardRuns.{Called, Did}
 use Rattle.board_history.specs.Histories.{ChoseFrom}
-use Rattle.board_history.specs.HistoriesSoFar.{IsCallSoFar, IsHistorySoFar}
+use Rattle.board_history.specs.HistoriesSoFar.{IsOpOfCallSoFar, IsHistorySoFar}
 use Rattle.board_history.specs.RunsSoFar.{end_of, IsBoardRunSoFar}
 use Rattle.board_history.proofs.Atomic.{choices_there}
 use Rattle.board_history.proofs.There.{all_there}
@@ -27,7 +27,7 @@ module _ {V : Type 0} (width n limit : ℕ) (opening : V) (did : ℕ → Did V) 
       let w = h.all i k c l e in
       let op : Op V = w.1 in
       let who : op.who ≡ i = w.5 in
-      let call : IsCallSoFar width n did op w.2 k = w.6 in
+      let call : IsOpOfCallSoFar width n did op w.2 k = w.6 in
       let made : call.call ≡ c = same_Some call.call c (sym call.made ∙ ap (λ j. slice_get (did j).calls k) who ∙ e) in
       let ends : op.ends ≡ Some end = call.ends ∙ (λ z. end_of width n (did (who z)) k (made z)) ∙ at_end in
       let d = x.finished w.0 end op w.3 ends in

@@ -32,7 +32,7 @@ module _ {V F S T : Type 0} (words : FamilyWords F (Posted V) S T) (obeys : V �
     pub same : b' ≡ b
     pub seen : Posted V
     pub call : IsCall words obeys b Refused p p' seen
-    pub worn_out : b.limit ≤ seen.stamp.tag
+    pub at_limit : b.limit ≤ seen.stamp.tag
     pub chosen : p'.own ≡ seen
     pub so_far : HaveAtomicOrderSoFar words b p'
 

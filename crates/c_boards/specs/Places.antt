@@ -18,7 +18,7 @@ module _ {D : Type 0} (code : ℕ) where
       (h k : Holding D) (item : W) (stamp stamp' : Mark) : ℕ → Type 0 where
     done : (p q : S) → Has code h (place p) → Has code k (place q) → has_posted p q item (stamp_of stamp') →
         IsBoardWrite place has_posted is_refused h k item stamp stamp' 0
-    worn_out : (p q : S) → Has code h (place p) → Has code k (place q) → is_refused p q → stamp' ≡ stamp →
+    at_limit : (p q : S) → Has code h (place p) → Has code k (place q) → is_refused p q → stamp' ≡ stamp →
         IsBoardWrite place has_posted is_refused h k item stamp stamp' 4
     refused : {n : ℕ} → IsLacking code h k n → stamp' ≡ stamp → IsBoardWrite place has_posted is_refused h k item stamp stamp' n
 

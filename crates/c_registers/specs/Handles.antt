@@ -35,7 +35,7 @@ module _ {D : Type 0} (code : ℕ) where
   pub data IsWrite {P W : Type 0} (writes : P → D) (last : P → ℕ) (has_written : P → P → W → Type 0)
       (h k : Holding D) (item : W) : ℕ → Type 0 where
     done : (p q : P) → Has h (writes p) → Has k (writes q) → has_written p q item → IsWrite writes last has_written h k item 0
-    worn_out : (p : P) → Has h (writes p) → 2 ^ 64 ≤ last p + 1 → k ≡ h → IsWrite writes last has_written h k item 4
+    at_limit : (p : P) → Has h (writes p) → 2 ^ 64 ≤ last p + 1 → k ≡ h → IsWrite writes last has_written h k item 4
     refused : {n : ℕ} → IsLacking h k n → IsWrite writes last has_written h k item n
 
   -- a call that publishes what lies in the writing side's slot, and its status: a write of that

@@ -33,7 +33,7 @@ pub trait Writing<W: Copy>: Sized + Drop {
         ensures written { result ≡ true → has_written self.old self.new words.now }
         ensures refused { result ≡ false → self.new ≡ self.old }
         ensures left { result ≡ true → last self.old + 1 < 2 ^ 64 }
-        ensures worn_out { result ≡ false → 2 ^ 64 ≤ last self.old + 1 };
+        ensures at_limit { result ≡ false → 2 ^ 64 ≤ last self.old + 1 };
 }
 
 /// A writing side whose cell's reading side is a `G`.

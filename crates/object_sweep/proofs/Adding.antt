@@ -5,8 +5,10 @@ use Rattle.std.proofs.lemmas.Bool.{cases_Bool, cases_lt}
 use Rattle.std.proofs.lemmas.Option.{same_Some, slice_get_within, slice_get-get_or}
 use Rattle.object_core.specs.declared.operation.Operation.{Operation}
 use Rattle.object_sweep.specs.declared.configuration.Configuration.{Configuration}
-use Rattle.object_sweep.specs.inner.Steps.{AnyCanFinish, AreExplored, AreSound, AreStarted, AreUnderWay, IsAdded, IsCopyAt, IsExplored}
-use Rattle.object_sweep.specs.inner.Steps.{IsGrown, IsHandled, IsLeftOut, IsMadeOf, IsPassed, IsPut, IsPutIn, IsSorted, IsTried, made_by}
+use Rattle.object_sweep.specs.inner.Steps.{AnyCanFinish, AreExplored, AreSound, AreStarted, AreUnderWay, IsAdded, IsClosed}
+use Rattle.object_sweep.specs.inner.Steps.{IsCopyAt, IsExplored, IsGrown, IsHandled, IsIdle, IsLeftOut, IsMadeOf, IsPassed, IsPureNext, IsPut}
+use Rattle.object_sweep.specs.inner.Steps.{IsPutIn, IsSorted, IsSureAndPure, IsTried, IsVisited, made_by}
+use Rattle.object_sweep.specs.inner.Steps.IsHandled.{Tries, Places as PlacesPure}
 use Rattle.object_sweep.specs.inner.Steps.{may_be_left_out, maybe_of, step_from}
 use Rattle.object_sweep.specs.Reached.{AreApart, AreReachable, AreTooMany, is_closed, is_in, IsHeld, IsNextEnd, IsReachable, IsSameAs}
 use Rattle.object_sweep.specs.Reached.{is_within}
@@ -267,6 +269,14 @@ module _ {S W : Type 0} (after : S → W → Option S) (log : List (Operation W)
             waiting' kept' (may_be_left_out log ending) refl h;
       }
 
+  either_grown : (ending q : ℕ) (t : S) (placed : List ℕ) (waiting kept waiting' kept' : List (Configuration S)) →
+      IsGrown waiting waiting' → IsGrown kept kept' →
+      IsIdle after (slice_get log q) ⊎ IsPutIn (nat_eq q ending) q t placed waiting kept →
+      IsIdle after (slice_get log q) ⊎ IsPutIn (nat_eq q ending) q t placed waiting' kept'
+  either_grown ending q t placed waiting kept waiting' kept' w k (inl idle) = inl idle
+  either_grown ending q t placed waiting kept waiting' kept' w k (inr put) =
+      inr (put_in_grown (nat_eq q ending) q t placed waiting kept waiting' kept' w k put)
+
   pub explored_more : (under_way : List ℕ) (ending : ℕ) (s : S) (placed : List ℕ) (n q : ℕ) → slice_get under_way n ≡ Some q →
       (waiting kept waiting' kept' waiting'' kept'' : List (Configuration S)) →
       IsExplored after log under_way ending s placed n waiting kept waiting' kept' →
@@ -286,23 +296,86 @@ module _ {S W : Type 0} (after : S → W → Option S) (log : List (Operation W)
       f = tried_facts (step_from after log s placed q) ending placed q waiting' kept' waiting'' kept'' h
 
       tried : (j r : ℕ) (t : S) → j < n + 1 → slice_get under_way j ≡ Some r → step_from after log s placed r ≡ Some t →
-          IsPutIn (nat_eq r ending) r t placed waiting'' kept''
+          IsIdle after (slice_get log r) ⊎ IsPutIn (nat_eq r ending) r t placed waiting'' kept''
       tried j r t l there e = elim (cases_lt j n) [
-        | inl less ↦ put_in_grown (nat_eq r ending) r t placed waiting' kept' waiting'' kept'' f.0 f.1 (yet.tried j r t less there e)
+        | inl less ↦ either_grown ending r t placed waiting' kept' waiting'' kept'' f.0 f.1 (yet.tried j r t less there e)
         | inr le ↦
             let same : j ≡ n = omega arith in
             let one : q ≡ r = same_Some q r (sym at ∙ (ap (slice_get under_way) (sym same) ∙ there)) in
             let P : ℕ → Type 0 = λ z. IsPutIn (nat_eq z ending) z t placed waiting'' kept'' in
-            subst P one (f.2 t (ap (step_from after log s placed) one ∙ e))
+            inr (subst P one (f.2 t (ap (step_from after log s placed) one ∙ e)))
+      ]
+
+  pub explored_idle : (under_way : List ℕ) (ending : ℕ) (s : S) (placed : List ℕ) (n q : ℕ) → slice_get under_way n ≡ Some q →
+      IsIdle after (slice_get log q) → (waiting kept waiting' kept' : List (Configuration S)) →
+      IsExplored after log under_way ending s placed n waiting kept waiting' kept' →
+      IsExplored after log under_way ending s placed (n + 1) waiting kept waiting' kept'
+  explored_idle under_way ending s placed n q at idle waiting kept waiting' kept' yet = record {
+    grown_waiting = yet.grown_waiting;
+    grown_kept = yet.grown_kept;
+    left_out = yet.left_out;
+    tried = tried;
+    sound = yet.sound;
+  }
+    where
+      tried : (j r : ℕ) (t : S) → j < n + 1 → slice_get under_way j ≡ Some r → step_from after log s placed r ≡ Some t →
+          IsIdle after (slice_get log r) ⊎ IsPutIn (nat_eq r ending) r t placed waiting' kept'
+      tried j r t l there e = elim (cases_lt j n) [
+        | inl less ↦ yet.tried j r t less there e
+        | inr le ↦
+            let same : j ≡ n = omega arith in
+            let one : q ≡ r = same_Some q r (sym at ∙ (ap (slice_get under_way) (sym same) ∙ there)) in
+            let P : ℕ → Type 0 = λ z. IsIdle after (slice_get log z) in inl (subst P one idle)
       ]
 
   handled_grown : (under_way : List ℕ) (ending : ℕ) (s : S) (placed : List ℕ) (waiting kept waiting' kept' : List (Configuration S)) →
       IsGrown waiting waiting' → IsGrown kept kept' → IsHandled after log under_way ending s placed waiting kept →
       IsHandled after log under_way ending s placed waiting' kept'
-  handled_grown under_way ending s placed waiting kept waiting' kept' w k h = record {
+  handled_grown under_way ending s placed waiting kept waiting' kept' w k (Tries h) = Tries (record {
     left_out = λ e. held_grown kept kept' s placed k (h.left_out e);
-    tried = λ j q t at e. put_in_grown (nat_eq q ending) q t placed waiting kept waiting' kept' w k (h.tried j q t at e);
+    tried = λ j q t at e. either_grown ending q t placed waiting kept waiting' kept' w k (h.tried j q t at e);
+  })
+  handled_grown under_way ending s placed waiting kept waiting' kept' w k (PlacesPure q o t at sure there free step put) =
+      PlacesPure q o t at sure there free step (put_in_grown (nat_eq q ending) q t placed waiting kept waiting' kept' w k put)
+
+  -- one configuration is explored: all is tried, or a pure operation is placed
+  pub visited_all : (under_way : List ℕ) (ending : ℕ) (s : S) (placed : List ℕ) (waiting kept waiting' kept' : List (Configuration S)) →
+      IsExplored after log under_way ending s placed (length under_way) waiting kept waiting' kept' →
+      IsVisited after log under_way ending s placed waiting kept waiting' kept'
+  visited_all under_way ending s placed waiting kept waiting' kept' h = record {
+    grown_waiting = h.grown_waiting;
+    grown_kept = h.grown_kept;
+    handled = Tries (record {
+      left_out = h.left_out;
+      tried = λ j q t at e. h.tried j q t (slice_get_within under_way j q at) at e;
+    });
+    sound = h.sound;
   }
+
+  pub visited_pure : (under_way : List ℕ) (ending : ℕ) (s : S) (placed : List ℕ) (q : ℕ) →
+      IsPureNext after log under_way s placed q → (waiting kept waiting' kept' : List (Configuration S)) →
+      IsTried (step_from after log s placed q) ending placed q waiting kept waiting' kept' →
+      IsVisited after log under_way ending s placed waiting kept waiting' kept'
+  visited_pure under_way ending s placed q next waiting kept waiting' kept' h = record {
+    grown_waiting = f.0;
+    grown_kept = f.1;
+    handled = PlacesPure q m.0 next.1 m.1 sure (is_in_at under_way next.0 q next.2) p.0 m.2 (f.2 next.1 next.4);
+    sound = λ opening ended end next_end way r lack. tried_sound after opening log ended under_way ending end next_end way s placed
+        next.0 q next.2 r lack waiting kept waiting' kept' (step_from after log s placed q) refl h;
+  }
+    where
+      f : IsGrown waiting waiting' × IsGrown kept kept' ×
+          ((t : S) → step_from after log s placed q ≡ Some t → IsPutIn (nat_eq q ending) q t placed waiting' kept')
+      f = tried_facts (step_from after log s placed q) ending placed q waiting kept waiting' kept' h
+
+      p : (is_in q placed ≡ false) × (made_by after s (slice_get log q) ≡ Some next.1)
+      p = step_parts after s log s placed q next.1 next.4
+
+      m : (o : Operation W) × (slice_get log q ≡ Some o) × (after s o.what ≡ Some next.1)
+      m = made_parts after s log s (slice_get log q) next.1 p.1
+
+      sure : IsSureAndPure after (Some m.0)
+      sure = subst (λ (z : Option (Operation W)). IsSureAndPure after z) m.1 next.3
 
   pub explored_first : (under_way : List ℕ) (ending : ℕ) (waiting kept : List (Configuration S)) →
       AreExplored after log under_way ending 0 waiting kept waiting kept
@@ -316,7 +389,7 @@ module _ {S W : Type 0} (after : S → W → Option S) (log : List (Operation W)
   pub explored_next : (under_way : List ℕ) (ending n : ℕ) (from : Configuration S)
       (waiting kept waiting' kept' waiting'' kept'' : List (Configuration S)) →
       AreExplored after log under_way ending n waiting kept waiting' kept' → IsCopyAt waiting' n from →
-      IsExplored after log under_way ending from.state from.placed.items (length under_way) waiting' kept' waiting'' kept'' →
+      IsVisited after log under_way ending from.state from.placed.items waiting' kept' waiting'' kept'' →
       AreExplored after log under_way ending (n + 1) waiting kept waiting'' kept''
   explored_next under_way ending n from waiting kept waiting' kept' waiting'' kept'' yet copy h = record {
     grown_waiting = λ i one e. h.grown_waiting i one (yet.grown_waiting i one e);
@@ -328,17 +401,11 @@ module _ {S W : Type 0} (after : S → W → Option S) (log : List (Operation W)
         (now.reached_waiting n copy.0 copy.1)) (ap (is_in ending) copy.2.1 ∙ now.lacking n copy.0 copy.1) now;
   }
     where
-      here : IsHandled after log under_way ending from.state from.placed.items waiting'' kept''
-      here = record {
-        left_out = h.left_out;
-        tried = λ j q t at e. h.tried j q t (slice_get_within under_way j q at) at e;
-      }
-
       there : IsHandled after log under_way ending copy.0.state copy.0.placed.items waiting'' kept''
       there =
           let P : S → Type 0 = λ z. IsHandled after log under_way ending z copy.0.placed.items waiting'' kept'' in
           let Q : List ℕ → Type 0 = λ z. IsHandled after log under_way ending from.state z waiting'' kept'' in
-          subst P copy.2.0 (subst Q copy.2.1 here)
+          subst P copy.2.0 (subst Q copy.2.1 h.handled)
 
       handled : (i : ℕ) (one : Configuration S) → i < n + 1 → slice_get waiting'' i ≡ Some one →
           IsHandled after log under_way ending one.state one.placed.items waiting'' kept''
@@ -358,6 +425,18 @@ module _ {S W : Type 0} (after : S → W → Option S) (log : List (Operation W)
             let P : Configuration S → Type 0 = λ z. IsHandled after log under_way ending z.state z.placed.items waiting'' kept'' in
             subst P e there
       ]
+
+  -- as many are explored as wait
+  pub closed : (under_way : List ℕ) (ending budget n : ℕ) (waiting kept waiting' kept' : List (Configuration S)) →
+      AreExplored after log under_way ending n waiting kept waiting' kept' → length waiting' ≤ n → (b : Bool) →
+      (b ≡ false → budget < length kept') → IsClosed after log under_way ending budget waiting kept waiting' kept' b
+  closed under_way ending budget n waiting kept waiting' kept' h few true many = record {
+    grown_waiting = h.grown_waiting;
+    grown_kept = h.grown_kept;
+    handled = λ i one l at. h.handled i one (omega (arith, l, few)) at;
+    sound = h.sound;
+  }
+  closed under_way ending budget n waiting kept waiting' kept' h few false many = (n, h, inr (many refl))
 
   pub started_none : (ending : ℕ) (configurations : List (Configuration S)) → AreStarted after log ending 0 configurations [] []
   started_none ending configurations = record {

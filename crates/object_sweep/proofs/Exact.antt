@@ -1,17 +1,20 @@
 -- One end, exact both ways: what is reached leads back to the opening, and what can be finished is kept.
-use Rattle.std.proofs.Common.{◌≡◌, ℕ, ◌≤◌, Bool, true, false, ◌||◌, nat_eq, List, [], ◌∷◌, ◌++◌, length, slice_get}
+use Rattle.std.proofs.Common.{◌≡◌, ℕ, ◌<◌, ◌≤◌, Bool, true, false, ◌||◌, nat_eq, List, [], ◌∷◌, ◌++◌, length, slice_get}
 use Rattle.std.proofs.Common.{Option, Some, zero, suc, refl, sym, ◌∙◌, ap, subst, arith, ◌⊎◌, inl, inr}
 use Rattle.std.proofs.lemmas.Bool.{cases_Bool, cases_lt, or_parts}
 use Rattle.history_core.specs.Orders.{times_of}
 use Rattle.object_core.specs.declared.operation.Operation.{Operation}
 use Rattle.object_core.specs.Logs.{is_due}
 use Rattle.object_sweep.specs.declared.configuration.Configuration.{Configuration}
-use Rattle.object_sweep.specs.inner.Steps.{AnyCanFinish, AreUnderWay, IsHandled, IsPutIn, may_be_left_out, maybe_of, step_from}
+use Rattle.object_sweep.specs.inner.Steps.{AnyCanFinish, AreTried, AreUnderWay, IsHandled, IsIdle, IsPutIn, IsSureAndPure, may_be_left_out}
+use Rattle.object_sweep.specs.inner.Steps.{maybe_of, step_from}
+use Rattle.object_sweep.specs.inner.Steps.IsHandled.{Tries, Places as PlacesPure}
 use Rattle.object_sweep.specs.Reached.{is_closed, is_in, IsHeld, IsNextEnd, IsReachable, IsSameAs, MayBeLeftOut, without}
 use Rattle.object_sweep.specs.Reached.IsReachable.{Opens, Places, Ends}
 use Rattle.object_sweep.specs.Rests.{CanFinish, CanPlace, IsRest, MayStandBehind, NoOpenEndBefore, RunForwards}
 use Rattle.object_sweep.proofs.Lists.{at_is_in, closed_behind, closed_ended, closed_left_out, closed_placed, same_closed, same_if}
-use Rattle.object_sweep.proofs.Placed.{complete_tail, dropped, sound, undropped}
+use Rattle.object_sweep.proofs.Placed.{complete_tail, dropped, sound, times_here, undropped}
+use Rattle.object_sweep.proofs.Pure.{shorter, without_idle, without_pure}
 
 module _ {S W : Type 0} (after : S → W → Option S) (log : List (Operation W)) where
   -- what follows depends on what is closed alone
@@ -69,7 +72,7 @@ module _ {S W : Type 0} (after : S → W → Option S) (log : List (Operation W)
       (lacking : (i : ℕ) (one : Configuration S) → slice_get waiting i ≡ Some one → is_in ending one.placed.items ≡ false)
       (handled : (i : ℕ) (one : Configuration S) → slice_get waiting i ≡ Some one →
       IsHandled after log under_way ending one.state one.placed.items waiting kept) where
-    left_out : (one : Configuration S) → IsHandled after log under_way ending one.state one.placed.items waiting kept →
+    left_out : (one : Configuration S) → AreTried after log under_way ending one.state one.placed.items waiting kept →
         is_in ending one.placed.items ≡ false → (rest : List ℕ) →
         IsRest after log (is_closed ended one.placed.items) one.state rest → times_of ending rest ≡ 0 →
         AnyCanFinish after log (ending ∷ ended) kept
@@ -86,19 +89,9 @@ module _ {S W : Type 0} (after : S → W → Option S) (log : List (Operation W)
         open_yet false b f g = g
         open_yet true b f g = cc
 
-    -- what the first of a rest leads to
-    module _ (one : Configuration S) (done : IsHandled after log under_way ending one.state one.placed.items waiting kept) (q : ℕ) (t : S)
-        (can : CanPlace after log (is_closed ended one.placed.items) end one.state q t) (rest : List ℕ)
+    -- what the operation leads to that is placed next
+    module _ (one : Configuration S) (q : ℕ) (t : S) (put : IsPutIn (nat_eq q ending) q t one.placed.items waiting kept) (rest : List ℕ)
         (r : IsRest after log (λ z. is_closed ended one.placed.items z || nat_eq z q) t rest) where
-      open_parts : (is_in q ended ≡ false) × (is_in q one.placed.items ≡ false)
-      open_parts = or_parts (is_in q ended) (is_in q one.placed.items) can.2
-
-      stepped : step_from after log one.state one.placed.items q ≡ Some t
-      stepped = rw (open_parts.1, can.1) can.4
-
-      put : IsPutIn (nat_eq q ending) q t one.placed.items waiting kept
-      put = let a = at_is_in under_way q (way.all q can.0 can.1 can.3 open_parts.0) in done.tried a.0 q t a.1 stepped
-
       ends_it : nat_eq q ending ≡ true → AnyCanFinish after log (ending ∷ ended) kept
       ends_it e =
           let same : (z : ℕ) → (is_closed ended one.placed.items z || nat_eq z q) ≡ is_closed (ending ∷ ended) one.placed.items z =
@@ -118,19 +111,89 @@ module _ {S W : Type 0} (after : S → W → Option S) (log : List (Operation W)
           (λ z. sym (closed_placed ended one.placed.items q z)) t rest r in
           (held.0, held.1, held.2, same_rests ended held.1 t (one.placed.items ++ q ∷ []) held.3 rest there)
 
-    pub finished : (n i : ℕ) (one : Configuration S) → slice_get waiting i ≡ Some one → (rest : List ℕ) →
-        IsRest after log (is_closed ended one.placed.items) one.state rest → length rest ≤ n → AnyCanFinish after log (ending ∷ ended) kept
-    finished n i one at [] h few = left_out one (handled i one at) (lacking i one at) [] h refl
-    finished zero i one at (q ∷ rest) h few = absurd (omega arith)
-    finished (suc n) i one at (q ∷ rest) h few = elim (cases_lt 0 (times_of ending (q ∷ rest))) [
-      | inr le ↦ left_out one (handled i one at) (lacking i one at) (q ∷ rest) h (omega arith)
+      goes_on : ((i : ℕ) (other : Configuration S) → slice_get waiting i ≡ Some other →
+          IsRest after log (is_closed ended other.placed.items) other.state rest → AnyCanFinish after log (ending ∷ ended) kept) →
+          AnyCanFinish after log (ending ∷ ended) kept
+      goes_on more = elim (cases_Bool (nat_eq q ending)) [
+        | inl e ↦ ends_it e
+        | inr e ↦ let w = waits e in more w.0 w.1 w.2 w.3
+      ]
+
+    -- of a shorter rest something is kept
+    abbrev KeepsShorter : List ℕ → Type 0
+    KeepsShorter rest = (i : ℕ) (one : Configuration S) → slice_get waiting i ≡ Some one → (less : List ℕ) →
+        IsRest after log (is_closed ended one.placed.items) one.state less → length less < length rest →
+        AnyCanFinish after log (ending ∷ ended) kept
+
+    -- where all is tried the first of the rest goes on, or it is idle, and the rest does without it
+    tries : (j : ℕ) (one : Configuration S) → slice_get waiting j ≡ Some one → AreTried after log under_way ending one.state one.placed.items waiting kept →
+        is_in ending one.placed.items ≡ false → (rest : List ℕ) → IsRest after log (is_closed ended one.placed.items) one.state rest →
+        KeepsShorter rest → AnyCanFinish after log (ending ∷ ended) kept
+    tries j one there done lack [] h more = left_out one done lack [] h refl
+    tries j one there done lack (q ∷ rest) h more = elim (cases_lt 0 (times_of ending (q ∷ rest))) [
+      | inr le ↦ left_out one done lack (q ∷ rest) h (omega arith)
       | inl l ↦
           let c = complete_tail after log forwards (is_closed ended one.placed.items) end ending next.0 next.1 next.2 one.state q rest h l
           in
-          elim (cases_Bool (nat_eq q ending)) [
-            | inl e ↦ ends_it one (handled i one at) q c.0 c.1 rest c.2 e
-            | inr e ↦
-                let w = waits one (handled i one at) q c.0 c.1 rest c.2 e in
-                finished n w.0 w.1 w.2 rest w.3 (omega arith)
+          elim (put c.0 c.1) [
+            | inl idle ↦ does_without c.1.0 c.1.1 (subst (λ (z : Option (Operation W)). IsIdle after z) c.1.1 idle)
+            | inr p ↦ goes_on one q c.0 p rest c.2 (λ i other at r. more i other at rest r (omega arith))
           ]
     ]
+      where
+        does_without : (o : Operation W) → slice_get log q ≡ Some o → IsIdle after (Some o) → AnyCanFinish after log (ending ∷ ended) kept
+        does_without o at idle =
+            let stands : 0 < times_of q (q ∷ rest) = let e = times_here q rest in omega (arith, e) in
+            more j one there (without q (q ∷ rest)) (without_idle after log q o at idle.1 idle.0 (is_closed ended one.placed.items) one.state
+            (q ∷ rest) h) (shorter q (q ∷ rest) stands)
+
+        put : (t : S) → CanPlace after log (is_closed ended one.placed.items) end one.state q t →
+            IsIdle after (slice_get log q) ⊎ IsPutIn (nat_eq q ending) q t one.placed.items waiting kept
+        put t can =
+            let open_parts = or_parts (is_in q ended) (is_in q one.placed.items) can.2 in
+            let stepped : step_from after log one.state one.placed.items q ≡ Some t = rw (open_parts.1, can.1) can.4 in
+            let a = at_is_in under_way q (way.all q can.0 can.1 can.3 open_parts.0) in done.tried a.0 q t a.1 stepped
+
+    -- where a pure operation is placed that is sure to stand in the rest, the rest without it goes on
+    places : (one : Configuration S) (q : ℕ) (o : Operation W) (t : S) → slice_get log q ≡ Some o → IsSureAndPure after (Some o) →
+        is_in q under_way ≡ true → is_in q one.placed.items ≡ false → after one.state o.what ≡ Some t →
+        IsPutIn (nat_eq q ending) q t one.placed.items waiting kept → (rest : List ℕ) →
+        IsRest after log (is_closed ended one.placed.items) one.state rest → KeepsShorter rest →
+        AnyCanFinish after log (ending ∷ ended) kept
+    places one q o t at sure there lack step put rest h more =
+        goes_on one q t put (without q rest) placed (λ i other e r. more i other e (without q rest) r (shorter q rest stands))
+      where
+        free : is_closed ended one.placed.items q ≡ false
+        free = both (is_in q ended) (is_in q one.placed.items) (way.begun q there).3 lack
+          where
+            both : (a b : Bool) → a ≡ false → b ≡ false → (a || b) ≡ false
+            both false b f g = g
+            both true b f g = cc
+
+        once : (f due : Bool) (times : ℕ) → f ≡ false → due ≡ true → MayStandBehind f due times → times ≡ 1
+        once true due times e d m = cc
+        once false true times e d m = m
+        once false false times e d m = cc
+
+        stands : 0 < times_of q rest
+        stands =
+            let one_time = once (is_closed ended one.placed.items q) (is_due o) (times_of q rest) free sure.0 (h.listing q o at) in
+            omega (arith, one_time)
+
+        placed : IsRest after log (λ z. is_closed ended one.placed.items z || nat_eq z q) t (without q rest)
+        placed =
+            let P : S → Type 0 = λ z. IsRest after log (λ r. is_closed ended one.placed.items r || nat_eq r q) z (without q rest) in
+            subst P (sym (sure.1 one.state t step)) (without_pure after log q o at sure.1 (is_closed ended one.placed.items) one.state rest h)
+
+    keeps : (j : ℕ) (one : Configuration S) → slice_get waiting j ≡ Some one → IsHandled after log under_way ending one.state one.placed.items waiting kept →
+        is_in ending one.placed.items ≡ false → (rest : List ℕ) → IsRest after log (is_closed ended one.placed.items) one.state rest →
+        KeepsShorter rest → AnyCanFinish after log (ending ∷ ended) kept
+    keeps j one e (Tries done) lack rest h more = tries j one e done lack rest h more
+    keeps j one e (PlacesPure q o t at sure there free step put) lack rest h more =
+        places one q o t at sure there free step put rest h more
+
+    pub finished : (n i : ℕ) (one : Configuration S) → slice_get waiting i ≡ Some one → (rest : List ℕ) →
+        IsRest after log (is_closed ended one.placed.items) one.state rest → length rest ≤ n → AnyCanFinish after log (ending ∷ ended) kept
+    finished zero i one at rest h few = keeps i one at (handled i one at) (lacking i one at) rest h (λ j other e less r l. absurd (omega arith))
+    finished (suc n) i one at rest h few =
+        keeps i one at (handled i one at) (lacking i one at) rest h (λ j other e less r l. finished n j other e less r (omega arith))

@@ -1,5 +1,6 @@
 -- The rules.
 pub mod Placed
+pub mod Pure
 pub mod Whole
 pub mod Lists
 pub mod Exact

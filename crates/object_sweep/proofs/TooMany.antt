@@ -16,8 +16,15 @@ module _ {S W : Type 0} (after : S → W → Option S) (opening : S) (log : List
       AreReachable after opening log ended held → TwoDiffer ended
   two_of ended [] more apart reached = absurd (omega arith)
   two_of ended (x ∷ []) more apart reached = absurd (omega arith)
-  two_of ended (x ∷ y ∷ rest) more apart reached = (x.placed.items, y.placed.items, x.state, y.state, reached 0 x refl,
-      reached 1 y refl, λ same there back. apart 0 1 x y refl refl (λ e. absurd (omega (arith, e))) (same, there, back))
+  two_of ended (x ∷ y ∷ rest) more apart reached = (
+    x.placed.items,
+    y.placed.items,
+    x.state,
+    y.state,
+    reached 0 x refl,
+    reached 1 y refl,
+    λ same there back. apart 0 1 x y refl refl (λ e. absurd (omega (arith, e))) (same, there, back),
+  )
 
 pub two_differ : {S W : Type 0} (after : S → W → Option S) (opening : S) (log : List (Operation W)) (budget place : ℕ) →
     0 < budget → AreTooMany after opening log budget place →
@@ -25,8 +32,20 @@ pub two_differ : {S W : Type 0} (after : S → W → Option S) (opening : S) (lo
     × (ended placed others : List ℕ) × (s t : S) × IsReachable after opening log ended s placed
     × IsReachable after opening log ended t others
     × ((s ≡ t) → is_within placed others ≡ true → is_within others placed ≡ true → ⊥)
-two_differ after opening log budget place some h = let two = by_side h.reached in (h.next.0, h.end, h.next.1, h.next.2,
-    two.0, two.1.0, two.1.1, two.1.2, two.1.3, two.1.4, two.1.5, two.1.6)
+two_differ after opening log budget place some h = let two = by_side h.reached in (
+  h.next.0,
+  h.end,
+  h.next.1,
+  h.next.2,
+  two.0,
+  two.1.0,
+  two.1.1,
+  two.1.2,
+  two.1.3,
+  two.1.4,
+  two.1.5,
+  two.1.6,
+)
   where
     more : 1 < length h.held
     more = omega (arith, h.more, some)

@@ -1,12 +1,12 @@
 //! The end of one operation.
 
-ghost use Rattle.std.specs.Prelude.{◌≡◌, ◌<◌, List, nat_eq, length, IfNone, IfOk, IfSome, OnOk};
+ghost use Rattle.std.specs.Prelude.{◌≡◌, ◌<◌, List, nat_eq, length, slice_get, IfNone, IfOk, IfSome, IsTrue, OnOk};
 ghost use Rattle.object_core.specs.declared.operation.Operation.{Operation};
 ghost use Rattle.object_sweep.specs.Reached.{is_in};
 ghost use Rattle.object_sweep.specs.inner.Ends.{AreAlwaysTooMany};
-ghost use Rattle.object_sweep.specs.inner.Steps.{AreStarted, IsClosed, IsCopyAt, IsExplored, IsLeftOut, IsPassed};
-ghost use Rattle.object_sweep.specs.inner.Steps.{IsPut, IsSorted};
-ghost use Rattle.object_sweep.specs.inner.Steps.{IsTried, may_be_left_out, step_from};
+ghost use Rattle.object_sweep.specs.inner.Steps.{AreStarted, IsClosed, IsCopyAt, IsExplored, IsIdle, IsLeftOut};
+ghost use Rattle.object_sweep.specs.inner.Steps.{IsPassed, IsPureNext, IsPut, IsSorted, IsSureAndPure, IsTried, IsVisited};
+ghost use Rattle.object_sweep.specs.inner.Steps.{may_be_left_out, step_from};
 
 use crate::configuration::{Configuration, add};
 use crate::places::{is_in, with, without};
@@ -109,6 +109,16 @@ fn leave_out<O: Object>(
     add(&mut sets.kept, from.state, behind)
 }
 
+/// Whether an operation may have had no effect, and else leaves every state as it is. It need not be placed.
+fn is_idle<O: Object>(log: &[Operation<O::What>], place: usize) -> bool
+    ensures { IsTrue result → IsIdle O.after (slice_get log.now place) }
+{
+    match log.get(place) {
+        Some(op) => (op.maybe || op.ends.is_none()) && O::is_pure(op.what),
+        None => false,
+    }
+}
+
 /// All that a configuration leads to.
 fn explore<O: Object>(
     alloc: Global,
@@ -124,9 +134,58 @@ fn explore<O: Object>(
 {
     leave_out(alloc, log, ending, from, sets)?;
     for place in under_way {
-        try_place(alloc, log, ending, from, *place, sets)?;
+        if !is_idle::<O>(log, *place) {
+            try_place(alloc, log, ending, from, *place, sets)?;
+        }
     }
     Ok(())
+}
+
+/// Whether an operation is sure to have taken effect, and leaves every state as it is.
+fn is_sure_and_pure<O: Object>(log: &[Operation<O::What>], place: usize) -> bool
+    ensures { IsTrue result → IsSureAndPure O.after (slice_get log.now place) }
+{
+    match log.get(place) {
+        Some(op) => op.ends.is_some() && !op.maybe && O::is_pure(op.what),
+        None => false,
+    }
+}
+
+/// The first of those under way that is sure and pure and can be placed.
+fn pure_next<O: Object>(
+    log: &[Operation<O::What>],
+    under_way: &[usize],
+    from: &Configuration<O>,
+) -> Option<usize>
+    ensures { IfSome result (IsPureNext O.after log.now under_way.now from.now.state from.now.placed.items) }
+{
+    for place in under_way {
+        if is_sure_and_pure::<O>(log, *place)
+            && step_from(log, from.state, from.placed.as_slice(), *place).is_some()
+        {
+            return Some(*place);
+        }
+    }
+    None
+}
+
+/// All that a configuration leads to. Where a pure operation can be placed, that is placed alone: whatever follows can
+/// do without it.
+fn visit<O: Object>(
+    alloc: Global,
+    log: &[Operation<O::What>],
+    under_way: &[usize],
+    ending: usize,
+    from: &Configuration<O>,
+    sets: &mut Ending<O>,
+) -> Result<(), AllocError>
+    ensures { OnOk result (IsVisited O.after log.now under_way.now ending from.now.state from.now.placed.items
+        sets.old.waiting.items sets.old.kept.items sets.new.waiting.items sets.new.kept.items) }
+{
+    match pure_next(log, under_way, from) {
+        Some(place) => try_place(alloc, log, ending, from, place, sets),
+        None => explore(alloc, log, under_way, ending, from, sets),
+    }
 }
 
 /// A copy of the one at this place.
@@ -163,7 +222,7 @@ fn close<O: Object>(
             return Ok(false);
         }
         let from = copied(alloc, sets.waiting.as_slice(), next)?;
-        explore(alloc, log, under_way, ending, &from, sets)?;
+        visit(alloc, log, under_way, ending, &from, sets)?;
         next += 1;
     }
     Ok(sets.kept.len() <= budget)

@@ -1,6 +1,7 @@
 //! What may be placed at the ends of a log's operations, one after the other, decides whether it has a lawful order.
 
-ghost use Rattle.std.specs.Prelude.{◌≡◌, ◌↔◌, ◌⊎◌, ℕ, ◌<◌, Bool, true, false, ◌||◌, nat_eq, List, slice_get, None, Some};
+ghost use Rattle.std.specs.Prelude.{◌≡◌, ◌↔◌, ◌⊎◌, ℕ, ◌<◌, Bool, true, false, ◌||◌, nat_eq, List, slice_get};
+ghost use Rattle.std.specs.Prelude.{None, Some};
 ghost use Rattle.object_core.specs.declared.operation.Operation.{Operation};
 ghost use Rattle.object_core.specs.Logs.{IsLinearizable};
 ghost use Rattle.object_sweep.specs.Reached.{AreTooMany, is_closed, is_within, IsReachable};

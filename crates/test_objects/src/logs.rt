@@ -163,6 +163,29 @@ fn locks(rt: HostRuntime) {
     );
 }
 
+/// Of 40 reads beside a write not each set is a configuration. Where none of them has to stand in an order there are
+/// those before the write and behind it alone.
+#[test]
+fn many_reads(rt: HostRuntime) {
+    let alloc = rt.alloc();
+    let mut log = [done(1, 100, Exchange::Sets(1)); 41];
+    for k in 1..41 {
+        log[k] = done(2, 50 + k as u64, Exchange::Gets(k as u64 % 2));
+    }
+    assert_eq!(rt; of_register(alloc, &log), Some(Verdict::Lawful));
+    log[40] = done(2, 90, Exchange::Gets(2));
+    assert_eq!(rt; of_register(alloc, &log), Some(Verdict::Unlawful));
+    for k in 1..41 {
+        log[k] = unfinished(2, Exchange::Gets(k as u64 % 2));
+    }
+    let opening = Exchanging { held: 0 };
+    assert_eq!(rt; sweep(alloc, opening, &log, 1).ok(), Some(Verdict::Lawful));
+    for k in 1..41 {
+        log[k] = perhaps(2, 3, Exchange::Gets(k as u64 % 2));
+    }
+    assert_eq!(rt; sweep(alloc, opening, &log, 2).ok(), Some(Verdict::Lawful));
+}
+
 /// Two writes side by side make four configurations at the first end, two of which have it behind them.
 #[test]
 fn budgets(rt: HostRuntime) {

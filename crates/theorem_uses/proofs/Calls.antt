@@ -14,7 +14,7 @@ use Rattle.board_live.specs.declared.board.Board.{Board}
 use Rattle.board_live.specs.declared.board.Pass.{Pass}
 use Rattle.board_live.specs.declared.record.Posted.{Posted}
 use Rattle.board_live.specs.Passes.{IsCall, IsPass}
-use Rattle.board_live.specs.Records.{greater, greatest}
+use Rattle.board_live.specs.Records.{greater, greatest_posted}
 use Rattle.theorem_uses.specs.Boards.{ForgetsNoReceipt, SeesTheGreater, SeesWhatWasTold, ShowsItsOwn, TakesTime}
 
 last_is : {A : Type 0} (x y : A) (xs : List A) → last_or x (xs ++ y ∷ []) ≡ y
@@ -43,7 +43,7 @@ module _ {V F S T : Type 0} (words : FamilyWords F (Posted V) S T) (obeys : V �
       let number = h.read.numbered.number in (
         a.0,
         number,
-        call.is_seen ∙ ap (greatest old.own) a.1,
+        call.is_seen ∙ ap (greatest_posted old.own) a.1,
         ap (λ i. last_or board.first (words.reads new.seat i).answers) (sym at) ∙ ap (last_or board.first) h.read.answers
             ∙ last_is board.first a.0 (words.reads old.seat (other old.process 0)).answers,
         subst (λ i. slice_get (board.first ∷ (words.reads new.seat i).known.items) number ≡ Some a.0) at h.read.numbered.source,

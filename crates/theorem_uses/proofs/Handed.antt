@@ -16,34 +16,34 @@ module _ {D P W : Type 0} (code : ℕ) (writes : P → D) (last : P → ℕ) (ha
   pub done : (n : ℕ) → n ≡ 0 → Was n → (p : P) × (q : P) × (h.live ≡ code) × (h.side ≡ writes p) × (k.live ≡ code) × (k.side ≡ writes q)
       × has_written p q item
   done n e (handles.done p q had has wrote) = (p, q, had.0, had.1, has.0, has.1, wrote)
-  done n e (handles.worn_out p had most keeps) = absurd (omega (arith, e))
+  done n e (handles.at_limit p had most keeps) = absurd (omega (arith, e))
   done n e (handles.refused r) = absurd (let least = lacks_by_three n r.1 in omega (arith, e, least))
 
   pub ended : (n : ℕ) → n ≡ 3 → Was n → (h.live ≡ 0) × (k ≡ h)
   ended n e (handles.done p q had has wrote) = absurd (omega (arith, e))
-  ended n e (handles.worn_out p had most keeps) = absurd (omega (arith, e))
+  ended n e (handles.at_limit p had most keeps) = absurd (omega (arith, e))
   ended n e (handles.refused r) = (lacks_ended n e r.1, r.2)
 
-  pub worn_out : (n : ℕ) → n ≡ 4 → Was n → (p : P) × (h.live ≡ code) × (h.side ≡ writes p) × (2 ^ 64 ≤ last p + 1) × (k ≡ h)
-  worn_out n e (handles.done p q had has wrote) = absurd (omega (arith, e))
-  worn_out n e (handles.worn_out p had most keeps) = (p, had.0, had.1, most, keeps)
-  worn_out n e (handles.refused r) = absurd (lacks_not_by_four n r.1 e)
+  pub at_limit : (n : ℕ) → n ≡ 4 → Was n → (p : P) × (h.live ≡ code) × (h.side ≡ writes p) × (2 ^ 64 ≤ last p + 1) × (k ≡ h)
+  at_limit n e (handles.done p q had has wrote) = absurd (omega (arith, e))
+  at_limit n e (handles.at_limit p had most keeps) = (p, had.0, had.1, most, keeps)
+  at_limit n e (handles.refused r) = absurd (lacks_not_by_four n r.1 e)
 
   pub other : (n : ℕ) → n ≡ 5 → Was n → (h.live ≢ 0) × (h.live ≢ code) × (k ≡ h)
   other n e (handles.done p q had has wrote) = absurd (omega (arith, e))
-  other n e (handles.worn_out p had most keeps) = absurd (omega (arith, e))
+  other n e (handles.at_limit p had most keeps) = absurd (omega (arith, e))
   other n e (handles.refused r) = ((lacks_other n e r.1).0, r.0, r.2)
 
   pub cut_off : (n : ℕ) → n ≡ 12 → Was n → (h.live ≡ 255) × (k ≡ h)
   cut_off n e (handles.done p q had has wrote) = absurd (omega (arith, e))
-  cut_off n e (handles.worn_out p had most keeps) = absurd (omega (arith, e))
+  cut_off n e (handles.at_limit p had most keeps) = absurd (omega (arith, e))
   cut_off n e (handles.refused r) = (lacks_cut_off n e r.1, r.2)
 
 pub statuses : {D W : Type 0} → StatusesShow D W
 statuses code writes last h k item = (
   done code writes last HasWritten h k item 0 refl,
   ended code writes last HasWritten h k item 3 refl,
-  worn_out code writes last HasWritten h k item 4 refl,
+  at_limit code writes last HasWritten h k item 4 refl,
   other code writes last HasWritten h k item 5 refl,
   cut_off code writes last HasWritten h k item 12 refl,
 )

@@ -21,7 +21,7 @@ pub publishes : {D W : Type 0} → PublishesShow D W
 publishes code writes last h k = (
   handed.done code writes last (λ p q (_ : Unit {0}). HasPublished p q) h k tt 0 refl,
   handed.ended code writes last (λ p q (_ : Unit {0}). HasPublished p q) h k tt 3 refl,
-  handed.worn_out code writes last (λ p q (_ : Unit {0}). HasPublished p q) h k tt 4 refl,
+  handed.at_limit code writes last (λ p q (_ : Unit {0}). HasPublished p q) h k tt 4 refl,
   handed.other code writes last (λ p q (_ : Unit {0}). HasPublished p q) h k tt 5 refl,
   handed.cut_off code writes last (λ p q (_ : Unit {0}). HasPublished p q) h k tt 12 refl,
 )

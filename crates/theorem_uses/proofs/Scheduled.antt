@@ -5,7 +5,7 @@ use Rattle.history_core.specs.declared.history.Op.{Op}
 use Rattle.matrix_core.specs.declared.stamp.Stamp.{Stamp}
 use Rattle.cell_contract.specs.declared.family.Family.{Ghosts as FamilyWords}
 use Rattle.board_history.specs.BoardRuns.{Called, Did}
-use Rattle.board_history.specs.Histories.{IsCall}
+use Rattle.board_history.specs.Histories.{IsOpOfCall}
 use Rattle.board_live.specs.declared.record.Posted.{Posted}
 use Rattle.theorem_uses.specs.Boards.{ComesOfOneSchedule, EndsWithTheGreatest}
 
@@ -14,7 +14,7 @@ module _ {V F S T : Type 0} (words : FamilyWords F (Posted V) S T) where
   ends_with_the_greatest board did last h = ((h.greatest.process, h.greatest.inside, h.greatest.own), h.greatest.greatest)
 
   -- the call of an operation is that of its process at its number
-  the_call : (n : ℕ) (did : ℕ → Did V) (op : Op V) (stamp : Option Stamp) (i k : ℕ) (call : Called V) → IsCall n did op stamp k →
+  the_call : (n : ℕ) (did : ℕ → Did V) (op : Op V) (stamp : Option Stamp) (i k : ℕ) (call : Called V) → IsOpOfCall n did op stamp k →
       op.who ≡ i → slice_get (did i).calls k ≡ Some call → (stamp ≡ Some call.chosen.stamp) × (op.kind ≡ call.kind)
       × (op.item ≡ Some call.chosen.item) × (op.starts ≡ call.begin) × (op.ends ≡ Some call.end)
   the_call n did op stamp i k call h who at =

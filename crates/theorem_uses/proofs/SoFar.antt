@@ -14,7 +14,7 @@ use Rattle.matrix_core.specs.declared.stamp.Stamp.{Stamp}
 use Rattle.matrix_core.specs.Choices.{IsAtMost}
 use Rattle.matrix_core.specs.Listings.{MayPrecede}
 use Rattle.board_history.specs.BoardRuns.{Called, Did}
-use Rattle.board_history.specs.HistoriesSoFar.{IsAtomicRunSoFar, IsCallSoFar, IsUnchosenCall}
+use Rattle.board_history.specs.HistoriesSoFar.{IsAtomicRunSoFar, IsOpOfCallSoFar, IsUnchosenCall}
 use Rattle.board_history.specs.RunsSoFar.{end_of, unchosen_begin}
 use Rattle.theorem_uses.specs.Boards.{IsOnlyBoardWrite}
 use Rattle.theorem_uses.specs.SoFar.{CallsStandSoFar, StandsSoOften, ReadsThoughOthersStop, RefusesNoneSoFar, RunsSoFarShow}
@@ -104,15 +104,15 @@ module _ {V : Type 0} (width n limit : ℕ) (opening : V) (steps : List ℕ) (di
 
   -- an operation that stands in the order is a call that has chosen
   of_call : (y p : ℕ) (op : Op V) → slice_get run.order y ≡ Some p → slice_get run.ops p ≡ Some op →
-      (stamp : Option Stamp) × (k : ℕ) × IsCallSoFar width n did op stamp k
+      (stamp : Option Stamp) × (k : ℕ) × IsOpOfCallSoFar width n did op stamp k
   of_call y p op entry at =
       let l : p < length run.stamps = let a = slice_get_within run.ops p op at in let b = run.history.long in omega (arith, a, b) in
       let s = found run.stamps p l in
       which s.0 s.1 (run.history.each p op s.0 at s.1)
     where
       which : (stamp : Option Stamp) → slice_get run.stamps p ≡ Some stamp →
-          ((k : ℕ) × IsCallSoFar width n did op stamp k) ⊎ IsUnchosenCall width n did op stamp →
-          (stamp : Option Stamp) × (k : ℕ) × IsCallSoFar width n did op stamp k
+          ((k : ℕ) × IsOpOfCallSoFar width n did op stamp k) ⊎ IsUnchosenCall width n did op stamp →
+          (stamp : Option Stamp) × (k : ℕ) × IsOpOfCallSoFar width n did op stamp k
       which stamp s (inl c) = (stamp, c.0, c.1)
       which stamp s (inr u) =
           let none = often p op None None op.kind at (s ∙ ap Some u.stamp) u.ends refl ∙ unchosen op.kind in

@@ -17,7 +17,7 @@ use Rattle.board_history.specs.CutOffInstances.{answered, cell_ops, cell_run, ce
 use Rattle.board_history.specs.CutOffInstances.{column_stamps}
 use Rattle.board_history.specs.CutOffInstances.{column_steps, IsWorkedOut, read_call, read_op, row_ops, row_run, row_run_of, row_stamps}
 use Rattle.board_history.specs.CutOffInstances.{row_steps, write_call, write_op, written}
-use Rattle.board_history.specs.HistoriesSoFar.{IsCallSoFar, IsHistorySoFar, IsUnchosenCall}
+use Rattle.board_history.specs.HistoriesSoFar.{IsOpOfCallSoFar, IsHistorySoFar, IsUnchosenCall}
 use Rattle.board_history.specs.Instances.{seven, zero_first}
 use Rattle.board_history.specs.RunsSoFar.{IsBoardRunSoFar, IsProcessSoFar, unchosen_begin}
 use Rattle.board_history.proofs.cut_off.Few.{IsPartOf, none_chosen, not_read, one_call, read_first, two_sorted}
@@ -53,11 +53,11 @@ column_is_run = record {
 -- a history of two operations
 module _ (width n : ℕ) (did : ℕ → Did ℕ) where
   abbrev IsOne : Op ℕ → Option Stamp → Type 0
-  IsOne op stamp = ((k : ℕ) × IsCallSoFar width n did op stamp k) ⊎ IsUnchosenCall width n did op stamp
+  IsOne op stamp = ((k : ℕ) × IsOpOfCallSoFar width n did op stamp k) ⊎ IsUnchosenCall width n did op stamp
 
   abbrev HasCall : List (Op ℕ) → List (Option Stamp) → ℕ → ℕ → Type 0
   HasCall ops stamps i k = (p : ℕ) × (op : Op ℕ) × (stamp : Option Stamp) × (slice_get ops p ≡ Some op) × (slice_get stamps p ≡ Some stamp)
-      × (op.who ≡ i) × IsCallSoFar width n did op stamp k
+      × (op.who ≡ i) × IsOpOfCallSoFar width n did op stamp k
 
   abbrev HasUnchosen : List (Op ℕ) → List (Option Stamp) → ℕ → Type 0
   HasUnchosen ops stamps i = (p : ℕ)
@@ -86,7 +86,7 @@ module _ (width n : ℕ) (did : ℕ → Did ℕ) where
       rising (suc (suc p)) (suc q) c d ec ed m = absurd (none-some c ec)
       rising p (suc (suc q)) c d ec ed m = absurd (none-some d ed)
 
-write_ended : IsCallSoFar 2 2 column_run (write_op (Some 4)) (Some seven.stamp) 0
+write_ended : IsOpOfCallSoFar 2 2 column_run (write_op (Some 4)) (Some seven.stamp) 0
 write_ended = record {
   who = omega arith;
   call = write_call 4;
@@ -190,7 +190,7 @@ row_is_run = record {
     registers (suc (suc (suc i))) j li lj ne = absurd (omega arith)
 
 -- of processes 0 and 1 the call that is cut off, and the one that has ended
-row_write : IsCallSoFar 1 3 row_run (write_op None) (Some seven.stamp) 0
+row_write : IsOpOfCallSoFar 1 3 row_run (write_op None) (Some seven.stamp) 0
 row_write = record {
   who = omega arith;
   call = write_call 0;
@@ -202,7 +202,7 @@ row_write = record {
   ends = refl;
 }
 
-row_read : IsCallSoFar 1 3 row_run (read_op 4 (Some 7) (Some 7)) (Some seven.stamp) 0
+row_read : IsOpOfCallSoFar 1 3 row_run (read_op 4 (Some 7) (Some 7)) (Some seven.stamp) 0
 row_read = record {
   who = omega arith;
   call = read_call seven 4 7;
@@ -288,7 +288,7 @@ cell_is_run = record {
     registers (suc (suc i)) j li lj ne = absurd (omega arith)
     registers i (suc (suc j)) li lj ne = absurd (omega arith)
 
-cell_write : IsCallSoFar 3 2 cell_run (write_op None) (Some seven.stamp) 0
+cell_write : IsOpOfCallSoFar 3 2 cell_run (write_op None) (Some seven.stamp) 0
 cell_write = record {
   who = omega arith;
   call = write_call 0;
@@ -300,7 +300,7 @@ cell_write = record {
   ends = refl;
 }
 
-cell_read : IsCallSoFar 3 2 cell_run (read_op 5 (Some 10) (Some 0)) (Some first_stamp) 0
+cell_read : IsOpOfCallSoFar 3 2 cell_run (read_op 5 (Some 10) (Some 0)) (Some first_stamp) 0
 cell_read = record {
   who = omega arith;
   call = read_call zero_first 5 10;

@@ -11,7 +11,7 @@ use Rattle.board_history.specs.Accesses.{IsInterval}
 use Rattle.board_live.specs.declared.record.Posted.{Posted}
 use Rattle.board_live.specs.Passes.{IsFurtherAnswer}
 use Rattle.board_live.specs.Plans.{MakesCalls}
-use Rattle.board_live.specs.Records.{greatest, Rises}
+use Rattle.board_live.specs.Records.{greatest_posted, Rises}
 
 -- these steps are later than the first time, and the last of them is at the second; or there are none
 abbrev pub IsStretch : ℕ → ℕ → List ℕ → Type 0
@@ -50,7 +50,7 @@ module _ {V F S T : Type 0} (words : FamilyWords F (Posted V) S T) where
         × IsFurtherAnswer obeys (words.opening family) (words.reads seat (other process e)) (words.reads seat' (other process e)) answer
     pub unread : (e : ℕ) → count ≤ e → words.reads seat' (other process e) ≡ words.reads seat (other process e)
     pub writes : KeepsEach (words.writes seat) (words.writes seat')
-    pub sees : seen' ≡ greatest seen answers
+    pub sees : seen' ≡ greatest_posted seen answers
     pub lawful : IsTrue (obeys seen'.item)
     pub rises : Rises seen seen'
 

@@ -69,7 +69,7 @@ impl<W: Copy> TripleWriter<W> {
         ensures written { result ≡ true → HasPublished self.old self.new }
         ensures refused { result ≡ false → self.new ≡ self.old }
         ensures left { result ≡ true → self.old.number + 1 < 2 ^ 64 }
-        ensures worn_out { result ≡ false → 2 ^ 64 ≤ self.old.number + 1 }
+        ensures at_limit { result ≡ false → 2 ^ 64 ≤ self.old.number + 1 }
     {
         let Some(number) = self.number.checked_add(1) else {
             return false;

@@ -3,6 +3,7 @@ use Rattle.std.specs.Prelude.{◌≡◌, ℕ, ◌<◌, ◌≤◌, Bool, true, fa
 use Rattle.std.specs.Prelude.{Option, None, Some}
 use Rattle.std.specs.Prelude.{◌⊎◌}
 use Rattle.object_core.specs.declared.operation.Operation.{Operation}
+use Rattle.object_core.specs.Logs.{is_due}
 use Rattle.object_sweep.specs.declared.configuration.Configuration.{Configuration}
 use Rattle.object_sweep.specs.Reached.{AreApart, AreReachable, is_closed, is_in, IsHeld, IsNextEnd, IsReachable}
 use Rattle.object_sweep.specs.Reached.{without}
@@ -98,13 +99,37 @@ module _ {S W : Type 0} where
     pub waiting_apart : AreApart waiting
     pub kept_apart : AreApart kept
 
-  -- all that a configuration leads to is held
-  pub record IsHandled (after : S → W → Option S) (log : List (Operation W)) (under_way : List ℕ) (ending : ℕ) (s : S)
+  -- an operation leaves every state as it is
+  abbrev pub IsPure : (S → W → Option S) → Operation W → Type 0
+  IsPure after o = (s t : S) → after s o.what ≡ Some t → t ≡ s
+
+  -- it is sure to have taken effect, or not
+  abbrev pub IsSureAndPure : (S → W → Option S) → Option (Operation W) → Type 0
+  IsSureAndPure after None = ⊥
+  IsSureAndPure after (Some o) = (is_due o ≡ true) × IsPure after o
+
+  abbrev pub IsIdle : (S → W → Option S) → Option (Operation W) → Type 0
+  IsIdle after None = ⊥
+  IsIdle after (Some o) = (is_due o ≡ false) × IsPure after o
+
+  -- all that a configuration leads to is held, but for what is idle
+  pub record AreTried (after : S → W → Option S) (log : List (Operation W)) (under_way : List ℕ) (ending : ℕ) (s : S)
       (placed : List ℕ)
       (waiting kept : List (Configuration S)) : Type 0 where
     pub left_out : may_be_left_out log ending ≡ true → IsHeld kept s placed
     pub tried : (j q : ℕ) (t : S) → slice_get under_way j ≡ Some q → step_from after log s placed q ≡ Some t →
-        IsPutIn (nat_eq q ending) q t placed waiting kept
+        IsIdle after (slice_get log q) ⊎ IsPutIn (nat_eq q ending) q t placed waiting kept
+
+  -- of a configuration all that it leads to is held, or what such an operation leads to that can be placed
+  pub data IsHandled (after : S → W → Option S) (log : List (Operation W)) (under_way : List ℕ) (ending : ℕ) (s : S)
+      (placed : List ℕ)
+      (waiting kept : List (Configuration S)) : Type 0 where
+    Tries : AreTried after log under_way ending s placed waiting kept →
+        IsHandled after log under_way ending s placed waiting kept
+    Places : (q : ℕ) (o : Operation W) (t : S) → slice_get log q ≡ Some o → IsSureAndPure after (Some o) →
+        is_in q under_way ≡ true → is_in q placed ≡ false → after s o.what ≡ Some t →
+        IsPutIn (nat_eq q ending) q t placed waiting kept →
+        IsHandled after log under_way ending s placed waiting kept
 
   -- the first operations under way are tried
   pub record IsExplored (after : S → W → Option S) (log : List (Operation W)) (under_way : List ℕ) (ending : ℕ) (s : S)
@@ -113,11 +138,27 @@ module _ {S W : Type 0} where
     pub grown_kept : IsGrown kept kept'
     pub left_out : may_be_left_out log ending ≡ true → IsHeld kept' s placed
     pub tried : (j q : ℕ) (t : S) → j < n → slice_get under_way j ≡ Some q → step_from after log s placed q ≡ Some t →
-        IsPutIn (nat_eq q ending) q t placed waiting' kept'
+        IsIdle after (slice_get log q) ⊎ IsPutIn (nat_eq q ending) q t placed waiting' kept'
     pub sound : (opening : S) (ended : List ℕ) (end : ℕ) → IsNextEnd log ended ending end →
         AreUnderWay log under_way ended end →
         IsReachable after opening log ended s placed → is_in ending placed ≡ false →
         AreSound after opening log ended ending waiting kept → AreSound after opening log ended ending waiting' kept'
+
+  -- a configuration is explored
+  pub record IsVisited (after : S → W → Option S) (log : List (Operation W)) (under_way : List ℕ) (ending : ℕ) (s : S)
+      (placed : List ℕ) (waiting kept waiting' kept' : List (Configuration S)) : Type 0 where
+    pub grown_waiting : IsGrown waiting waiting'
+    pub grown_kept : IsGrown kept kept'
+    pub handled : IsHandled after log under_way ending s placed waiting' kept'
+    pub sound : (opening : S) (ended : List ℕ) (end : ℕ) → IsNextEnd log ended ending end →
+        AreUnderWay log under_way ended end →
+        IsReachable after opening log ended s placed → is_in ending placed ≡ false →
+        AreSound after opening log ended ending waiting kept → AreSound after opening log ended ending waiting' kept'
+
+  -- a sure and pure operation that is under way and can be placed
+  abbrev pub IsPureNext : (S → W → Option S) → List (Operation W) → List ℕ → S → List ℕ → ℕ → Type 0
+  IsPureNext after log under_way s placed q = (j : ℕ) × (t : S) × (slice_get under_way j ≡ Some q)
+      × IsSureAndPure after (slice_get log q) × (step_from after log s placed q ≡ Some t)
 
   -- the first of those that wait are explored
   pub record AreExplored (after : S → W → Option S) (log : List (Operation W)) (under_way : List ℕ) (ending n : ℕ)

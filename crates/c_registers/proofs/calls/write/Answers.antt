@@ -1,7 +1,7 @@
 -- What the side's own call did, it did where the side lies.
 use Rattle.std.proofs.Common.{rules, ◌≡◌, ◌∙◌, sym, refl, ap}
 use Rattle.std.specs.Prelude.{◌≢◌, true, false}
-use Rattle.c_registers.specs.Handles.{holding, done, worn_out, refused}
+use Rattle.c_registers.specs.Handles.{holding, done, at_limit, refused}
 use Rattle.c_registers.proofs.calls.write.Goals as goal
 
 pub returns-then-live-code-clause-write : goal.returns-then-live-code-clause-write
@@ -28,5 +28,5 @@ returns-else-written-clause-write g c =
     let none : c.write_inside-written.result ≡ false = search rules in
     let did = c.write_inside-written.ensures.refused none in
     let stays = g.met.L.Holds.has _ _ ∙ did.0 ∙ c.reach.ensures.value in
-    worn_out (g.D.Wraps.inner c.reach.result.now) (is, sym c.reach.ensures.value ∙ sym (g.met.D.Wraps.whole_of c.reach.result.now)) did.1
+    at_limit (g.D.Wraps.inner c.reach.result.now) (is, sym c.reach.ensures.value ∙ sym (g.met.D.Wraps.whole_of c.reach.result.now)) did.1
     (λ i. holding ((sym is) i) (stays i))

@@ -1,9 +1,11 @@
 -- It may be left out; then one more is tried, and another.
-use Rattle.std.proofs.Common.{◌≡◌, ℕ, ◌≤◌, length, arith, subst}
+use Rattle.std.proofs.Common.{◌≡◌, ℕ, ◌+◌, ◌≤◌, get_or, length, slice_get, Some, arith, subst, sym}
 use Rattle.std.proofs.lemmas.Option.{slice_get-get_or}
+use Rattle.object_sweep.specs.declared.ending.Ending.{Ending}
 use Rattle.object_sweep.specs.inner.Steps.{IsExplored}
-use Rattle.object_sweep.proofs.Adding.{explored_more, explored_none}
+use Rattle.object_sweep.proofs.Adding.{explored_idle, explored_more, explored_none}
 use Rattle.object_sweep.proofs.ending.explore.Goals as goal
+use Rattle.object_sweep.proofs.ending.explore.Goals.{then-not-is_idle+in_ok-try_place, else-not-is_idle}
 
 pub loop-place-init : goal.loop-place-init
 loop-place-init g c =
@@ -12,11 +14,26 @@ loop-place-init g c =
     c.in_ok-leave_out.ensures
 
 pub loop-place-preserved : goal.loop-place-preserved
-loop-place-preserved g c =
-    explored_more g.O.Object.after c.args.log.now c.args.under_way.now c.args.ending c.args.from.now.state c.args.from.now.placed.items
-    c.loop-place.place-index _ (slice_get-get_or c.args.under_way.now c.loop-place.place-index _ c.loop-place-test.true)
-    c.args.sets.now.waiting.items c.args.sets.now.kept.items c.loop-place.sets.waiting.items c.loop-place.sets.kept.items
-    c.try_place.new.sets.waiting.items c.try_place.new.sets.kept.items c.loop-place.invariant c.in_ok-try_place.ensures
+loop-place-preserved g c = elim c.if-not-is_idle.branch [
+  | then-not-is_idle+in_ok-try_place w ↦
+      subst P (sym w.sets-is) (explored_more g.O.Object.after c.args.log.now c.args.under_way.now c.args.ending c.args.from.now.state
+      c.args.from.now.placed.items c.loop-place.place-index _ at c.args.sets.now.waiting.items c.args.sets.now.kept.items
+      c.loop-place.sets.waiting.items c.loop-place.sets.kept.items w.try_place.new.sets.waiting.items w.try_place.new.sets.kept.items
+      c.loop-place.invariant w.in_ok-try_place.ensures)
+  | else-not-is_idle w ↦
+      subst P (sym w.sets-is) (explored_idle g.O.Object.after c.args.log.now c.args.under_way.now c.args.ending c.args.from.now.state
+      c.args.from.now.placed.items c.loop-place.place-index _ at (c.is_idle.ensures w.if-not-is_idle.false)
+      c.args.sets.now.waiting.items c.args.sets.now.kept.items c.loop-place.sets.waiting.items c.loop-place.sets.kept.items
+      c.loop-place.invariant)
+]
+  where
+    at : slice_get c.args.under_way.now c.loop-place.place-index ≡ Some (get_or c.args.under_way.now c.loop-place.place-index 0)
+    at = slice_get-get_or c.args.under_way.now c.loop-place.place-index 0 c.loop-place-test.true
+
+    P : Ending g.row.O.Denot → Type 0
+    P z = IsExplored g.O.Object.after c.args.log.now c.args.under_way.now c.args.ending c.args.from.now.state
+        c.args.from.now.placed.items (c.loop-place.place-index + 1) c.args.sets.now.waiting.items c.args.sets.now.kept.items
+        z.waiting.items z.kept.items
 
 pub returns : goal.returns
 returns g c =

@@ -18,4 +18,4 @@ returns-in-Err-clause-refused g c =
     let call = c.in-Err.ensures.call in
     subst (λ b. IsRefused g.F.Family g.V.RecordLaw.obeys b b c.args.self.now.pass.value c.write.new.pass) c.deref.ensures
     (subst (λ p. IsRefused g.F.Family g.V.RecordLaw.obeys c.deref.result.now c.deref.result.now p c.write.new.pass) c.as_mut.ensures.value
-    (record { same = refl; seen = call.0; call = call.1; worn_out = call.2.0; chosen = call.2.2; so_far = c.in-Err.ensures.so_far }))
+    (record { same = refl; seen = call.0; call = call.1; at_limit = call.2.0; chosen = call.2.2; so_far = c.in-Err.ensures.so_far }))
