@@ -6,8 +6,8 @@ use Rattle.std.proofs.lemmas.Option.{same_Some, slice_get_within, slice_get-get_
 use Rattle.object_core.specs.declared.operation.Operation.{Operation}
 use Rattle.object_sweep.specs.declared.configuration.Configuration.{Configuration}
 use Rattle.object_sweep.specs.inner.Steps.{AnyCanFinish, AreExplored, AreSound, AreStarted, AreUnderWay, IsAdded, IsClosed}
-use Rattle.object_sweep.specs.inner.Steps.{IsCopyAt, IsExplored, IsGrown, IsHandled, IsIdle, IsLeftOut, IsMadeOf, IsPassed, IsPureNext, IsPut}
-use Rattle.object_sweep.specs.inner.Steps.{IsPutIn, IsSorted, IsSureAndPure, IsTried, IsVisited, made_by}
+use Rattle.object_sweep.specs.inner.Steps.{IsCopyAt, IsExplored, IsGrown, IsHandled, IsIdle, IsLeftOut, IsMadeOf, IsPassed, IsPureNext}
+use Rattle.object_sweep.specs.inner.Steps.{IsPut, IsPutIn, IsSorted, IsSureAndPure, IsTried, IsVisited, made_by}
 use Rattle.object_sweep.specs.inner.Steps.IsHandled.{Tries, Places as PlacesPure}
 use Rattle.object_sweep.specs.inner.Steps.{may_be_left_out, maybe_of, step_from}
 use Rattle.object_sweep.specs.Reached.{AreApart, AreReachable, AreTooMany, is_closed, is_in, IsHeld, IsNextEnd, IsReachable, IsSameAs}

@@ -126,7 +126,8 @@ module _ {S W : Type 0} (after : S → W → Option S) (log : List (Operation W)
         AnyCanFinish after log (ending ∷ ended) kept
 
     -- where all is tried the first of the rest goes on, or it is idle, and the rest does without it
-    tries : (j : ℕ) (one : Configuration S) → slice_get waiting j ≡ Some one → AreTried after log under_way ending one.state one.placed.items waiting kept →
+    tries : (j : ℕ) (one : Configuration S) → slice_get waiting j ≡ Some one →
+        AreTried after log under_way ending one.state one.placed.items waiting kept →
         is_in ending one.placed.items ≡ false → (rest : List ℕ) → IsRest after log (is_closed ended one.placed.items) one.state rest →
         KeepsShorter rest → AnyCanFinish after log (ending ∷ ended) kept
     tries j one there done lack [] h more = left_out one done lack [] h refl
@@ -144,8 +145,8 @@ module _ {S W : Type 0} (after : S → W → Option S) (log : List (Operation W)
         does_without : (o : Operation W) → slice_get log q ≡ Some o → IsIdle after (Some o) → AnyCanFinish after log (ending ∷ ended) kept
         does_without o at idle =
             let stands : 0 < times_of q (q ∷ rest) = let e = times_here q rest in omega (arith, e) in
-            more j one there (without q (q ∷ rest)) (without_idle after log q o at idle.1 idle.0 (is_closed ended one.placed.items) one.state
-            (q ∷ rest) h) (shorter q (q ∷ rest) stands)
+            more j one there (without q (q ∷ rest)) (without_idle after log q o at idle.1 idle.0 (is_closed ended one.placed.items)
+            one.state (q ∷ rest) h) (shorter q (q ∷ rest) stands)
 
         put : (t : S) → CanPlace after log (is_closed ended one.placed.items) end one.state q t →
             IsIdle after (slice_get log q) ⊎ IsPutIn (nat_eq q ending) q t one.placed.items waiting kept
@@ -183,9 +184,11 @@ module _ {S W : Type 0} (after : S → W → Option S) (log : List (Operation W)
         placed : IsRest after log (λ z. is_closed ended one.placed.items z || nat_eq z q) t (without q rest)
         placed =
             let P : S → Type 0 = λ z. IsRest after log (λ r. is_closed ended one.placed.items r || nat_eq r q) z (without q rest) in
-            subst P (sym (sure.1 one.state t step)) (without_pure after log q o at sure.1 (is_closed ended one.placed.items) one.state rest h)
+            let still : t ≡ one.state = sure.1 one.state t step in
+            subst P (sym still) (without_pure after log q o at sure.1 (is_closed ended one.placed.items) one.state rest h)
 
-    keeps : (j : ℕ) (one : Configuration S) → slice_get waiting j ≡ Some one → IsHandled after log under_way ending one.state one.placed.items waiting kept →
+    keeps : (j : ℕ) (one : Configuration S) → slice_get waiting j ≡ Some one →
+        IsHandled after log under_way ending one.state one.placed.items waiting kept →
         is_in ending one.placed.items ≡ false → (rest : List ℕ) → IsRest after log (is_closed ended one.placed.items) one.state rest →
         KeepsShorter rest → AnyCanFinish after log (ending ∷ ended) kept
     keeps j one e (Tries done) lack rest h more = tries j one e done lack rest h more
@@ -194,6 +197,7 @@ module _ {S W : Type 0} (after : S → W → Option S) (log : List (Operation W)
 
     pub finished : (n i : ℕ) (one : Configuration S) → slice_get waiting i ≡ Some one → (rest : List ℕ) →
         IsRest after log (is_closed ended one.placed.items) one.state rest → length rest ≤ n → AnyCanFinish after log (ending ∷ ended) kept
-    finished zero i one at rest h few = keeps i one at (handled i one at) (lacking i one at) rest h (λ j other e less r l. absurd (omega arith))
+    finished zero i one at rest h few =
+        keeps i one at (handled i one at) (lacking i one at) rest h (λ j other e less r l. absurd (omega arith))
     finished (suc n) i one at rest h few =
         keeps i one at (handled i one at) (lacking i one at) rest h (λ j other e less r l. finished n j other e less r (omega arith))

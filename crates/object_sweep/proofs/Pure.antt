@@ -21,7 +21,8 @@ times_without : (p q : ℕ) (rest : List ℕ) → q ≢ p → times_of p (withou
 times_without p q [] ne = refl
 times_without p q (x ∷ xs) ne = by_test (nat_eq x q) refl (times_without p q xs ne)
   where
-    by_test : (b : Bool) → nat_eq x q ≡ b → times_of p (without q xs) ≡ times_of p xs → times_of p (without q (x ∷ xs)) ≡ times_of p (x ∷ xs)
+    by_test : (b : Bool) → nat_eq x q ≡ b → times_of p (without q xs) ≡ times_of p xs →
+        times_of p (without q (x ∷ xs)) ≡ times_of p (x ∷ xs)
     by_test true e more =
         let other : x ≢ p = λ s. ne (sym (same_if x q e) ∙ s) in
         ap (λ b. times_of p (cond (not b) (x ∷ without q xs) (without q xs))) e ∙ (more ∙ sym (times_there p x xs other))

@@ -5,8 +5,8 @@ ghost use Rattle.object_core.specs.declared.operation.Operation.{Operation};
 ghost use Rattle.object_sweep.specs.Reached.{is_in};
 ghost use Rattle.object_sweep.specs.inner.Ends.{AreAlwaysTooMany};
 ghost use Rattle.object_sweep.specs.inner.Steps.{AreStarted, IsClosed, IsCopyAt, IsExplored, IsIdle, IsLeftOut};
-ghost use Rattle.object_sweep.specs.inner.Steps.{IsPassed, IsPureNext, IsPut, IsSorted, IsSureAndPure, IsTried, IsVisited};
-ghost use Rattle.object_sweep.specs.inner.Steps.{may_be_left_out, step_from};
+ghost use Rattle.object_sweep.specs.inner.Steps.{IsPassed, IsPureNext, IsPut, IsSorted, IsSureAndPure};
+ghost use Rattle.object_sweep.specs.inner.Steps.{IsTried, IsVisited, may_be_left_out, step_from};
 
 use crate::configuration::{Configuration, add};
 use crate::places::{is_in, with, without};

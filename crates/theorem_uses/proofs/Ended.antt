@@ -68,7 +68,8 @@ module _ {V F S T : Type 0} (words : FamilyWords F (Posted V) S T) (board : Boar
       }
 
   -- each operation is a call
-  of_call : (p : ℕ) (op : Op V) → slice_get run.ops p ≡ Some op → (stamp : Option Stamp) × (k : ℕ) × IsOpOfCall board.processes did op stamp k
+  of_call : (p : ℕ) (op : Op V) → slice_get run.ops p ≡ Some op →
+      (stamp : Option Stamp) × (k : ℕ) × IsOpOfCall board.processes did op stamp k
   of_call p op at =
       let l : p < length run.stamps = let a = slice_get_within run.ops p op at in let b = run.history.long in omega (arith, a, b) in
       let s = found run.stamps p l in
