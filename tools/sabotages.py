@@ -18,6 +18,7 @@ import tempfile
 TOP = os.path.dirname(os.path.dirname(os.path.realpath(__file__)))
 OUTCOMES, CHECKS, TEST = "tests/gate/outcomes.sh", "tests/gate/checks.py", "test"
 REFUSALS, DOCUMENTS, EXAMPLES = "tests/programs/refusals.sh", "tests/programs/documents.sh", "tests/programs/examples.sh"
+SWEEPS = "tests/programs/reference/sweeps.py"
 CONVERTERS, RECORDER, COMPARE = "tests/programs/converters.py", "tests/programs/recorder.sh", "tests/programs/reference/compare.py"
 FAILED = "failed=$((failed + 1))"
 # The installed library for recorder.sh, if there is one.
@@ -54,6 +55,11 @@ ROWS = {
          '. "$1"\n    echo "$((passed + failed - checks_before)) passed, 0 failed" >"$room/own_sums"\n    passed=$checks_before failed=0'),
     ],
     "tests/gate/tried.sh": [("wrong bodies of no crate", "tests/gate/wrong_bodies.py", "failed += not total", "")],
+    "tests/programs/sweeps.sh": [
+        ("a sweep's answers aren't compared", SWEEPS, "if why:", "if False:"),
+        ("configurations aren't counted", SWEEPS, "return None if most > budget else", "return None if most + 99 > budget else"),
+        ("the same answer for all logs", SWEEPS, "for it, answer in zip(logs, said):", "for it, answer in zip(logs[:1], said):"),
+    ],
     "tests/programs/examples.sh": [
         ("texts aren't compared", OUTCOMES, 'elif ! cmp -s "$room/$told" "$wanted"; then', "elif false; then"),
         ("a status isn't looked at", OUTCOMES, 'if [ "$status" != "$wanted_status" ]; then', "if false; then"),
