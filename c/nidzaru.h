@@ -257,7 +257,8 @@ extern const uint64_t nidzaru_fingerprint;
 
 /* Where the library's memory comes from. It has both, over `malloc` and `free`; a program may define its own two, and then the library asks
  * for no other memory. A block has at least so many bytes, is aligned to 16 and is no other live block; null says that there is no
- * memory. `make` takes blocks and the last end gives them back, each from its own thread; no other call asks. */
+ * memory. `make` takes blocks and the last end gives them back, each from its own thread; no other call asks. NAME_make_bytes says beforehand
+ * how much a make takes. */
 void *nidzaru_allocate(size_t bytes);
 void nidzaru_release(void *block);
 
@@ -574,14 +575,42 @@ NIDZARU_CHECKED int nidzaru_move_handle(nidzaru_handle *to, nidzaru_handle *from
     return NIDZARU_DONE;
 }
 
+/* How many bytes the library asks nidzaru_allocate for if its code wants so many: whole lines of the cache, and one more (c/heap.c). */
+#define NIDZARU_LINES(bytes) (((bytes) + 63) / 64 * 64 + 64)
+
+/* What a make of a register asks for, by the size of the library's records. A slot is a record and its number. The slots are first put into a
+ * list, which has room for four at once, or if they are large for one, two and four; then they lie beside the control words. Both sides share
+ * a block of 72 bytes that leads there, and each has one of its own. */
+#define NIDZARU_SLOTS_GROW(slot) ((slot) > 1024)
+#define NIDZARU_LIST_BYTES(slot)                                                                                      \
+    (NIDZARU_LINES(4 * (slot)) + (NIDZARU_SLOTS_GROW(slot) ? NIDZARU_LINES(slot) + NIDZARU_LINES(2 * (slot)) : 0))
+#define NIDZARU_REGISTER_BYTES(triple, size)                                                                          \
+    (NIDZARU_LIST_BYTES((size) + 8) + NIDZARU_LINES(((triple) ? 3 : 4) * ((size) + 8)) + NIDZARU_LINES((triple) ? 8 : 256) + \
+     NIDZARU_LINES(72) + NIDZARU_LINES((triple) ? 24 : 40) + NIDZARU_LINES(16))
+#define NIDZARU_REGISTER_REQUESTS(size) (NIDZARU_SLOTS_GROW((size) + 8) ? 8 : 6)
+
+/* What a make asks nidzaru_allocate for, exactly, if the library is of this header's release: the bytes of all its requests, and how many they
+ * are. Some of them it gives back before it ends. Each is a multiple of 64, so if a program gives them out one behind the other, a block of so
+ * many bytes that is aligned to 16 has room for them. These are constant expressions:
+ *
+ *   NIDZARU_MAKE_BYTES(limits), NIDZARU_MAKE_REQUESTS(limits)                  of a register or fan of this name
+ *   NIDZARU_BOARD_MAKE_BYTES(plans, 3), NIDZARU_BOARD_MAKE_REQUESTS(plans, 3)  of a board of this name with 3 places
+ *
+ * The functions limits_make_bytes(), limits_make_requests(), plans_make_bytes(3) and plans_make_requests(3) give the same. */
+#define NIDZARU_MAKE_BYTES(name)                                                                                      \
+    ((name##_is_fan ? NIDZARU_FAN_BYTES(name##_registers) : 0) +                                                      \
+     name##_registers * NIDZARU_REGISTER_BYTES(name##_is_triple, NIDZARU_SIZE(sizeof(name##_record))))
+#define NIDZARU_MAKE_REQUESTS(name)                                                                                   \
+    (NIDZARU_TO(size_t, name##_is_fan) + name##_registers * NIDZARU_REGISTER_REQUESTS(NIDZARU_SIZE(sizeof(name##_record))))
+
 /* What a register and a fan have alike: the types of their sides, what a reader does, and moves. */
-#define NIDZARU_SIDES(name, type, triple, is_a_fan)                                                                    \
+#define NIDZARU_SIDES(name, type, triple, is_a_fan, registers)                                                         \
     NIDZARU_ASSERT(NIDZARU_PLAIN(type), "a record of a register is neither const nor volatile");                       \
     NIDZARU_ASSERT(NIDZARU_COPIES(type), "a record of a register is trivially copyable");                              \
     NIDZARU_ASSERT(sizeof(type) <= 1048576, "a record of a register has at most 1048576 bytes");                       \
     /* (below stands this name alone: a type may be called as an argument is) */                                       \
     typedef type name##_record;                                                                                        \
-    enum { name##_is_triple = (triple), name##_is_fan = (is_a_fan) };                                                  \
+    enum { name##_is_triple = (triple), name##_is_fan = (is_a_fan), name##_registers = (registers) };                  \
     typedef struct {                                                                                                   \
         nidzaru_handle handle;                                                                                         \
         char apart[NIDZARU_APART];                                                                                     \
@@ -590,6 +619,9 @@ NIDZARU_CHECKED int nidzaru_move_handle(nidzaru_handle *to, nidzaru_handle *from
         nidzaru_handle handle;                                                                                         \
         char apart[NIDZARU_APART];                                                                                     \
     } name##_reader;                                                                                                   \
+    /* How many bytes a make asks nidzaru_allocate for in all, and how often. */                                       \
+    NIDZARU_INLINE size_t name##_make_bytes(void) { return NIDZARU_MAKE_BYTES(name); }                                 \
+    NIDZARU_INLINE size_t name##_make_requests(void) { return NIDZARU_MAKE_REQUESTS(name); }                           \
     /* Gives one whole record, and then its number, which is not below that of any read or look before. */             \
     NIDZARU_CHECKED int name##_read(name##_reader *reader, name##_record *item, uint64_t *number) {                    \
         if (!reader || !item || !number) return NIDZARU_NULL;                                                          \
@@ -644,7 +676,7 @@ NIDZARU_CHECKED int nidzaru_move_handle(nidzaru_handle *to, nidzaru_handle *from
     }
 
 #define NIDZARU_FUNCTIONS(name, type, triple)                                                                          \
-    NIDZARU_SIDES(name, type, triple, 0)                                                                               \
+    NIDZARU_SIDES(name, type, triple, 0, 1)                                                                            \
     /* Makes a register that holds `first` as number 0, and puts its sides into two empty handles. */                  \
     NIDZARU_CHECKED int name##_make(const name##_record *first, name##_writer *writer, name##_reader *reader) {        \
         if (!first || !writer || !reader) return NIDZARU_NULL;                                                         \
@@ -679,7 +711,8 @@ NIDZARU_CHECKED int nidzaru_move_handle(nidzaru_handle *to, nidzaru_handle *from
     NIDZARU_ASSERT(1, "takes a semicolon")
 
 /* The types NAME_writer and NAME_reader and the functions NAME_make, NAME_write, NAME_read, NAME_look, NAME_news,
- * NAME_latest, NAME_move_writer, NAME_move_reader, NAME_end_writer and NAME_end_reader, for records of this type. */
+ * NAME_latest, NAME_move_writer, NAME_move_reader, NAME_end_writer, NAME_end_reader, NAME_make_bytes and NAME_make_requests, for records of
+ * this type. */
 #define NIDZARU_REGISTER(name, type) NIDZARU_FUNCTIONS(name, type, 0)
 #define NIDZARU_TRIPLE_REGISTER(name, type) NIDZARU_FUNCTIONS(name, type, 1)
 
@@ -781,7 +814,7 @@ typedef struct {
 NIDZARU_INLINE nidzaru_handle *nidzaru_fan_writers(nidzaru_fan *fan) { return NIDZARU_TO(nidzaru_handle *, NIDZARU_TO(void *, fan + 1)); }
 
 /* How many bytes the block of a fan's writing side has: whole lines of the cache. */
-#define NIDZARU_FAN_BYTES(count) ((sizeof(nidzaru_fan) + (count) * sizeof(nidzaru_handle) + 63) / 64 * 64 + 64)
+#define NIDZARU_FAN_BYTES(count) NIDZARU_LINES(sizeof(nidzaru_fan) + (count) * sizeof(nidzaru_handle))
 
 NIDZARU_INLINE nidzaru_fan *nidzaru_new_fan(size_t count) {
     char *block = NIDZARU_TO(char *, nidzaru_allocate(NIDZARU_FAN_BYTES(count)));
@@ -862,7 +895,7 @@ NIDZARU_INLINE int nidzaru_fan_end(int triple, size_t size, nidzaru_handle *w) {
 }
 
 #define NIDZARU_FAN_FUNCTIONS(name, type, readers_of, triple)                                                          \
-    NIDZARU_SIDES(name, type, triple, 1)                                                                               \
+    NIDZARU_SIDES(name, type, triple, 1, readers_of)                                                                   \
     NIDZARU_ASSERT((readers_of) >= 1, "a fan has at least one reader");                                                \
     enum { name##_readers = (readers_of) };                                                                            \
     /* Makes a fan that holds `first` as number 0, and puts its sides into empty handles, of which none is there twice. */ \
@@ -901,7 +934,8 @@ NIDZARU_INLINE int nidzaru_fan_end(int triple, size_t size, nidzaru_handle *w) {
     NIDZARU_ASSERT(1, "takes a semicolon")
 
 /* The types NAME_writer and NAME_reader, the number NAME_readers and the functions NAME_make, NAME_write, NAME_read, NAME_look, NAME_news,
- * NAME_latest, NAME_move_writer, NAME_move_reader, NAME_end_writer and NAME_end_reader, for records of this type and so many readers. */
+ * NAME_latest, NAME_move_writer, NAME_move_reader, NAME_end_writer, NAME_end_reader, NAME_make_bytes and NAME_make_requests, for records of
+ * this type and so many readers. */
 #define NIDZARU_FAN(name, type, readers_of) NIDZARU_FAN_FUNCTIONS(name, type, readers_of, 0)
 #define NIDZARU_TRIPLE_FAN(name, type, readers_of) NIDZARU_FAN_FUNCTIONS(name, type, readers_of, 1)
 
@@ -973,6 +1007,22 @@ NIDZARU_DECLARE_BOARD(triple_board_4096)
      : (size) == 256 ? (triple) ? nidzaru_triple_board_256_##call arguments : nidzaru_board_256_##call arguments      \
      : (triple)      ? nidzaru_triple_board_4096_##call arguments                                                     \
                      : nidzaru_board_4096_##call arguments)
+
+/* What a make of a board asks for. Its registers, one for each place to each, have `stride` words and so many slots each, eight words stand
+ * before them, and `record` is a record with its stamp. Words and slots are first put into a list each. A `seat` is what a place knows of the
+ * registers, a `pass` all that it has: there are two lists of seats and one of passes, two of places and one of what handles lead to. The
+ * board is a block, and each place has two. */
+#define NIDZARU_BOARD_PARTS(places, stride, slots, record, seat, pass)                                                \
+    (2 * NIDZARU_LINES(8 * ((stride) * (places) * (places) + 8)) + 2 * NIDZARU_LINES((slots) * (places) * (places) * (record)) + \
+     2 * NIDZARU_LINES((places) * (seat)) + NIDZARU_LINES((places) * (pass)) + 2 * NIDZARU_LINES(16 * (places)) +     \
+     NIDZARU_LINES(8 * (places)) + NIDZARU_LINES((record) + 88) + (places) * (NIDZARU_LINES(pass) + NIDZARU_LINES(16)))
+#define NIDZARU_BOARD_BYTES(triple, size, places)                                                                     \
+    ((triple) ? NIDZARU_BOARD_PARTS(places, 8, 3, (size) + 16, (size) + 288, 2 * (size) + 336)                        \
+              : NIDZARU_BOARD_PARTS(places, 16, 4, (size) + 16, (size) + 544, 2 * (size) + 592))
+#define NIDZARU_BOARD_REQUESTS(places) (2 * (places) + 11)
+#define NIDZARU_BOARD_MAKE_BYTES(name, places)                                                                        \
+    NIDZARU_BOARD_BYTES(name##_is_triple, NIDZARU_BOARD_SIZE(sizeof(name##_record)), places)
+#define NIDZARU_BOARD_MAKE_REQUESTS(name, places) (NIDZARU_BOARD_REQUESTS(places) + 0 * sizeof(name##_place))
 
 /* Makes a board with a place for each handle. They must be empty. */
 NIDZARU_CHECKED int nidzaru_sized_board_make(int triple, size_t size, const void *first, uint64_t limit, nidzaru_handle *const *places,
@@ -1065,6 +1115,9 @@ NIDZARU_INLINE int nidzaru_sized_board_end(int triple, size_t size, nidzaru_hand
         nidzaru_handle handle;                                                                                         \
         char apart[NIDZARU_APART];                                                                                     \
     } name##_place;                                                                                                    \
+    /* How many bytes a make of 2 to 16 places asks nidzaru_allocate for in all, and how often. */                     \
+    NIDZARU_INLINE size_t name##_make_bytes(size_t count) { return NIDZARU_BOARD_MAKE_BYTES(name, count); }            \
+    NIDZARU_INLINE size_t name##_make_requests(size_t count) { return NIDZARU_BOARD_MAKE_REQUESTS(name, count); }      \
     /* Makes a board that holds `first`, and puts its 2 to 16 places into empty handles. Its tags end at the limit. */ \
     NIDZARU_CHECKED int name##_make_limited(const name##_record *first, uint64_t limit, name##_place *places, size_t count) { \
         uint64_t words[NIDZARU_BOARD_SIZE(sizeof(name##_record)) / 8] = {0};                                           \
@@ -1153,8 +1206,8 @@ NIDZARU_INLINE int nidzaru_sized_board_end(int triple, size_t size, nidzaru_hand
     }                                                                                                                  \
     NIDZARU_ASSERT(1, "takes a semicolon")
 
-/* The type NAME_place and the functions NAME_make, NAME_make_limited, NAME_write, NAME_read, NAME_latest, NAME_read_since, NAME_news, NAME_move
- * and NAME_end, for records of this type. */
+/* The type NAME_place and the functions NAME_make, NAME_make_limited, NAME_write, NAME_read, NAME_latest, NAME_read_since, NAME_news, NAME_move,
+ * NAME_end, NAME_make_bytes and NAME_make_requests, for records of this type. */
 #define NIDZARU_BOARD(name, type) NIDZARU_BOARD_FUNCTIONS(name, type, 0)
 #define NIDZARU_TRIPLE_BOARD(name, type) NIDZARU_BOARD_FUNCTIONS(name, type, 1)
 

@@ -21,6 +21,10 @@
 //
 // `if (writer)`, `if (reader)` and `if (places[0])` ask whether there is a side.
 //
+//   nidzaru::writer<limits>::make_bytes(), make_requests()       what a make asks nidzaru_allocate for, in bytes and in requests: constants
+//   nidzaru::fan_writer<limits>::make_bytes(3), ..               the same of a fan with three readers
+//   nidzaru::place<plan>::make_bytes(3), ..                      the same of a board with three places
+//
 // The record's type is neither const nor volatile, trivially copyable, and of at most 1048576 bytes, on a board 4096. It may be aligned to
 // 16, 32, 64 and more.
 #ifndef NIDZARU_HPP
@@ -155,6 +159,10 @@ template <class T, cell C = cell::four_slot> class writer : detail::side {
 
     // Ends the side before the object goes. The reader keeps the last record.
     int end() noexcept { return nidzaru_sized_end_writer(record::triple, record::size, &handle); }
+
+    // What a make of such a register asks nidzaru_allocate for: exactly, if the library is of this header's release.
+    static constexpr std::size_t make_bytes() noexcept { return NIDZARU_REGISTER_BYTES(record::triple, record::size); }
+    static constexpr std::size_t make_requests() noexcept { return NIDZARU_REGISTER_REQUESTS(record::size); }
 
     template <class U, cell D> friend std::optional<sides<U, D>> try_make(const U &first) noexcept;
 
@@ -318,6 +326,12 @@ template <class T, cell C = cell::four_slot> class fan_writer : detail::side {
     // Ends the side before the object goes. Each reader keeps the last record.
     int end() noexcept { return nidzaru_fan_end(record::triple, record::size, &handle); }
 
+    // What a make of a fan with so many readers asks nidzaru_allocate for.
+    static constexpr std::size_t make_bytes(std::size_t readers) noexcept {
+        return NIDZARU_FAN_BYTES(readers) + readers * writer<T, C>::make_bytes();
+    }
+    static constexpr std::size_t make_requests(std::size_t readers) noexcept { return 1 + readers * writer<T, C>::make_requests(); }
+
   private:
     friend struct detail::fan_making;
     [[maybe_unused]] detail::distance distance = {};
@@ -475,6 +489,12 @@ template <class T, cell C = cell::four_slot> class place : detail::side {
 
     // Ends the place before the object goes. The others go on.
     int end() noexcept { return nidzaru_sized_board_end(record::triple, record::size, &handle); }
+
+    // What a make of a board with so many places asks nidzaru_allocate for.
+    static constexpr std::size_t make_bytes(std::size_t places) noexcept {
+        return NIDZARU_BOARD_BYTES(record::triple, record::size, places);
+    }
+    static constexpr std::size_t make_requests(std::size_t places) noexcept { return NIDZARU_BOARD_REQUESTS(places); }
 
   private:
     friend struct detail::board_making;

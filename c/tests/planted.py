@@ -25,7 +25,7 @@ HERE = os.path.dirname(os.path.realpath(__file__))
 TOP = os.path.dirname(os.path.dirname(HERE))
 sys.path.insert(0, HERE)
 import refused  # noqa: E402
-from edits import BLOCK, BOARDS, CLASSES, CRATE, FANS, H, HEADER, HPP, LIB, RAW, SHARED, WATCHED  # noqa: E402
+from edits import BLOCK, BOARDS, CLASSES, CRATE, FANS, H, HEADER, HPP, LIB, MADE, RAW, SHARED, WATCHED  # noqa: E402
 
 # What stands before a command, and so many seconds it may take.
 BEFORE, LONGEST = [], 240
@@ -61,6 +61,8 @@ PROGRAMS = {
     "held": (C11, "held.c", ["2000"], []),
     "large": (OPTIMIZED, "large.c", [], ["-DWORDS=131072", "-DTRIPLE"]),
     "loaned": (C11, "loaned.c", ["2000"], []),
+    "made": (C11, "made.c", [], []),
+    "made.cpp": (CPP17, "made.cpp", [], []),
     "loaned, watched": (RACES, "loaned.c", ["2000", "threads"], []),
     "watched": (RACES, "watched.c elsewhere.c", ["clean"], []),
     "led": (ADDRESSES, "loaned.c led.c", ["500"], wraps(LED, "nidzaru_")),
@@ -116,7 +118,7 @@ class Room:
         self.is_edited, self.built = False, {}
         for name in ("nidzaru.h", "nidzaru.hpp"):
             shutil.copy(f"{TOP}/c/{name}", self.headers)
-        for name in ("Cargo.toml", LIB, BOARDS, RAW, WATCHED, BLOCK, SHARED, FANS):
+        for name in ("Cargo.toml", LIB, BOARDS, RAW, WATCHED, BLOCK, SHARED, FANS, MADE):
             shutil.copyfile(f"{TOP}/rust/nidzaru/{name}", f"{self.crate}/{name}")
 
     def edit(self, path, old, new, all_of_them=False):

@@ -270,6 +270,8 @@ test_in_c() {
     run_here "examples/c/own_memory.c ($c)" "$c" -std=c11 $strict -O2 examples/c/own_memory.c $flags -o "$room/program"
     wants='all memory was the program.s'
     run_here "c/tests/memory.c ($c)" "$c" -std=c11 $strict -O2 c/tests/memory.c $flags -o "$room/program"
+    wants=passed
+    run_here "c/tests/made.c ($c)" "$c" -std=c11 $strict -O2 c/tests/made.c $flags -o "$room/program"
     wants='a torn record'
     run_control "c/tests/test.c over a plain buffer ($c)" \
         "$c" -std=c11 -D_GNU_SOURCE $strict -O2 -I c c/tests/test.c c/tests/control.c -o "$room/program"
@@ -295,6 +297,7 @@ test_in_cpp() {
         run_here "c/tests/fans.cpp ($cpp, C++$year)" "$cpp" -std=c++$year $strict -O2 c/tests/fans.cpp $wrapped $flags -o "$room/program"
     done
     run_here "c/tests/aligned.cpp ($cpp)" "$cpp" -std=c++17 $strict -O2 c/tests/aligned.cpp $flags -o "$room/program"
+    run_here "c/tests/made.cpp ($cpp)" "$cpp" -std=c++17 $strict -O2 c/tests/made.cpp $flags -o "$room/program"
     run_here "c/tests/bare.cpp, without exceptions ($cpp)" \
         "$cpp" -std=c++17 $strict -O2 -fno-exceptions -fno-rtti c/tests/bare.cpp $flags -o "$room/program"
     test_language c/nidzaru.h C++11 "$cpp" -std=c++98 -x c++ -I .

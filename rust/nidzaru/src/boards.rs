@@ -62,10 +62,10 @@ impl fmt::Display for BoardError {
 impl core::error::Error for BoardError {}
 
 /// What is known of a record of a board when the program is compiled.
-struct Known<T, M>(PhantomData<(T, M)>);
+pub(crate) struct Known<T, M>(PhantomData<(T, M)>);
 
 impl<T: Copy + Send, M: Mechanism> Known<T, M> {
-    const CALLS: &'static BoardCalls = {
+    pub(crate) const CALLS: &'static BoardCalls = {
         assert!(size_of::<T>() <= 4096, "a record of a board has at most 4096 bytes");
         raw::board_calls_for(size_of::<T>(), M::TRIPLE)
     };

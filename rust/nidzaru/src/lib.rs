@@ -96,6 +96,7 @@ mod boards;
 mod fans;
 #[cfg(feature = "std")]
 pub mod log;
+mod memory;
 mod raw;
 #[cfg(feature = "shared")]
 pub mod shared;
@@ -104,6 +105,7 @@ mod watched;
 pub use boards::{board, board_over, limited_board, places, places_over, triple_board};
 pub use boards::{BoardError, Place, Since, Stamp, GREATEST_LIMIT};
 pub use fans::{fan, fan_from, fan_over, Fan, FanWriter};
+pub use memory::{board_memory, fan_memory, register_memory, Memory};
 
 // (the names that it had before 2.1)
 #[doc(hidden)]

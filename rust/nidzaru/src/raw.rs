@@ -184,10 +184,9 @@ pub fn version() -> u32 {
     unsafe { nidzaru_version() }
 }
 
-/// The size of the library's records that these calls are for.
-#[cfg(feature = "shared")]
 impl Calls {
-    pub fn size(&self) -> usize {
+    /// The size of the library's records that these calls are for.
+    pub const fn size(&self) -> usize {
         self.size
     }
 }
@@ -727,6 +726,13 @@ pub const fn board_calls_for(size: usize, triple: bool) -> &'static BoardCalls {
         (25..=256, true) => &TRIPLE_BOARD_256,
         (257..=4096, true) => &TRIPLE_BOARD_4096,
         _ => panic!("a record of a board has at most 4096 bytes"),
+    }
+}
+
+impl BoardCalls {
+    /// The size of the library's records that these calls are for.
+    pub const fn size(&self) -> usize {
+        self.size
     }
 }
 
