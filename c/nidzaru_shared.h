@@ -13,6 +13,7 @@
  *
  *   nidzaru_shared block;
  *   plant_create(&block, "/plant", 1 << 20, &plant)    the maker: makes the block; without a name it is for children by fork alone
+ *                                                      (plant_create_bytes() + limits_shared_make_bytes() + .. is how large it has to be)
  *   limits_shared_make(&block, &plant->limits, &first) makes the register in the block; so may any process later on
  *   nidzaru_shared_open(&block)                        the maker: from here on others can attach
  *   plant_attach(&block, "/plant", &plant)             another process
@@ -115,7 +116,10 @@ NIDZARU_INLINE uint64_t nidzaru_shared_type(const char *name, size_t size, size_
     return ((sum ^ size) * 1099511628211u ^ alignment) * 1099511628211u;
 }
 
-/* The functions NAME_create and NAME_attach of a block whose first object is a `type`. */
+/* The bytes that a block has before its first object, and before each part of it that a make takes. */
+enum { NIDZARU_SHARED_HEAD = 4096, NIDZARU_SHARED_PART = 16 };
+
+/* The functions NAME_create, NAME_create_bytes and NAME_attach of a block whose first object is a `type`. */
 #define NIDZARU_SHARED_BLOCK(name, type)                                                                               \
     NIDZARU_ASSERT(NIDZARU_COPIES(type), "what a block begins with is trivially copyable");                            \
     NIDZARU_ASSERT(NIDZARU_ALIGNMENT(type) <= 4096, "what a block begins with is aligned to at most 4096");            \
@@ -129,6 +133,8 @@ NIDZARU_INLINE uint64_t nidzaru_shared_type(const char *name, size_t size, size_
         if (!status) *root = NIDZARU_TO(name##_root *, block->root);                                                   \
         return status;                                                                                                 \
     }                                                                                                                  \
+    /* How many bytes a block takes where nothing is made in it: those of all makes are to be added. */                \
+    NIDZARU_INLINE size_t name##_create_bytes(void) { return NIDZARU_SHARED_HEAD + (sizeof(name##_root) + 63) / 64 * 64; } \
     /* Takes the block of this name into this process. */                                                              \
     NIDZARU_CHECKED int name##_attach(nidzaru_shared *block, const char *path, name##_root **root) {                   \
         int status;                                                                                                    \
@@ -165,7 +171,7 @@ NIDZARU_INLINE uint64_t nidzaru_shared_type(const char *name, size_t size, size_
     }
 
 /* Below NIDZARU_REGISTER(name, type) or NIDZARU_TRIPLE_REGISTER(name, type): the type NAME_shared and the functions NAME_shared_make,
- * NAME_claim_writer, NAME_recover_writer, NAME_yield_writer, and the same three of the reader. */
+ * NAME_shared_make_bytes, NAME_claim_writer, NAME_recover_writer, NAME_yield_writer, and the same three of the reader. */
 #define NIDZARU_SHARED_REGISTER(name)                                                                                  \
     NIDZARU_ASSERT(!name##_is_fan, "a block has a register for each reader, or a board");                              \
     typedef struct {                                                                                                   \
@@ -190,12 +196,16 @@ NIDZARU_INLINE uint64_t nidzaru_shared_type(const char *name, size_t size, size_
         shared->item.reader = NIDZARU_TO(uint16_t, shared->reader.handle.side.live);                                   \
         return nidzaru_item_end(&shared->item, status);                                                                \
     }                                                                                                                  \
+    /* How many bytes of the block that takes, exactly. */                                                             \
+    NIDZARU_INLINE size_t name##_shared_make_bytes(void) {                                                             \
+        return NIDZARU_MAKE_BYTES(name) + NIDZARU_SHARED_PART * NIDZARU_MAKE_REQUESTS(name);                           \
+    }                                                                                                                  \
     NIDZARU_SHARED_SIDE(name, writer, 0)                                                                               \
     NIDZARU_SHARED_SIDE(name, reader, 1)                                                                               \
     NIDZARU_ASSERT(1, "takes a semicolon")
 
 /* Below NIDZARU_BOARD(name, type) or NIDZARU_TRIPLE_BOARD(name, type): the type NAME_shared of a board of `count` places and the functions
- * NAME_shared_make, NAME_claim and NAME_yield. */
+ * NAME_shared_make, NAME_shared_make_bytes, NAME_claim and NAME_yield. */
 #define NIDZARU_SHARED_BOARD(name, count)                                                                              \
     NIDZARU_ASSERT((count) >= 2 && (count) <= 16, "a board has 2 to 16 places");                                       \
     typedef struct {                                                                                                   \
@@ -214,6 +224,10 @@ NIDZARU_INLINE uint64_t nidzaru_shared_type(const char *name, size_t size, size_
         if (!block || !shared || !first) return NIDZARU_NULL;                                                          \
         status = nidzaru_item_begin(block, &shared->item, shared->claims, count, name##_shared_type());                \
         return status ? status : nidzaru_item_end(&shared->item, name##_make(first, shared->places, count));           \
+    }                                                                                                                  \
+    /* How many bytes of the block that takes, exactly. */                                                             \
+    NIDZARU_INLINE size_t name##_shared_make_bytes(void) {                                                             \
+        return NIDZARU_BOARD_MAKE_BYTES(name, count) + NIDZARU_SHARED_PART * NIDZARU_BOARD_MAKE_REQUESTS(name, count); \
     }                                                                                                                  \
     /* Makes this thread the owner of the place with this number, from 0, and points `*place` to its handle. */        \
     NIDZARU_CHECKED int name##_claim(nidzaru_shared *block, name##_shared *shared, size_t number, name##_place **place) { \
@@ -278,6 +292,8 @@ typedef struct {
     nidzaru_shared_head *from;
     uint64_t unused;
 } nidzaru_part;
+NIDZARU_ASSERT(sizeof(nidzaru_part) == NIDZARU_SHARED_PART, "a part has so many bytes before it");
+NIDZARU_ASSERT(sizeof(nidzaru_shared_head) <= NIDZARU_SHARED_HEAD, "a block's head has so many bytes");
 
 /* The block in which this thread makes a register or board. */
 static __thread nidzaru_shared_head *nidzaru_making;

@@ -212,6 +212,11 @@ template <class T, cell C = cell::four_slot> class shared_register {
         return nidzaru_item_end(&item, status);
     }
 
+    // How many bytes of the block that takes, exactly.
+    static constexpr std::size_t make_bytes() noexcept {
+        return writer<T, C>::make_bytes() + NIDZARU_SHARED_PART * writer<T, C>::make_requests();
+    }
+
     // Makes this thread the owner of the writing side, and `writer` its claim. If that has another one, it is yielded first.
     template <class Root> [[nodiscard]] int claim_writer(shared_block<Root> &block, shared_writer<T, C> &writer) noexcept {
         writer.yield();
@@ -265,6 +270,11 @@ template <class T, std::size_t N, cell C = cell::four_slot> class shared_board {
         return nidzaru_item_end(&item, nidzaru_sized_board_make(record::triple, record::size, copy.words, NIDZARU_UNLIMITED, handles, N));
     }
 
+    // How many bytes of the block that takes, exactly.
+    static constexpr std::size_t make_bytes() noexcept {
+        return place<T, C>::make_bytes(N) + NIDZARU_SHARED_PART * place<T, C>::make_requests(N);
+    }
+
     // Makes this thread the owner of the place with this number, from 0, and `place` its claim.
     template <class Root> [[nodiscard]] int claim(shared_block<Root> &block, std::size_t number, shared_place<T, C> &place) noexcept {
         if (number >= N) return NIDZARU_PROCESSES;
@@ -302,6 +312,9 @@ template <class Root> class shared_block {
         if (block.head) return NIDZARU_IN_USE;
         return nidzaru_shared_create(&block, name, NIDZARU_SHARED_AT, bytes, sizeof(Root), type());
     }
+
+    // How many bytes a block takes where nothing is made in it: those of all makes are to be added.
+    static constexpr std::size_t create_bytes() noexcept { return NIDZARU_SHARED_HEAD + (sizeof(Root) + 63) / 64 * 64; }
 
     // Takes the block of this name into this process.
     [[nodiscard]] int attach(const char *name) noexcept {

@@ -816,6 +816,10 @@ CRATE = [
     ("a maker whose death is told once", BLOCK, "OWNER_DEAD | NOT_RECOVERABLE => Err", "OWNER_DEAD => Err", "blocks"),
     ("a register of another block", BLOCK, "self.has(item)?; if item.state.load", "if item.state.load", "blocks"),
     ("a register in the process's own memory", BLOCK, "MAKING.set(self.head.as_ptr());", "", "blocks"),
+    ("parts of a block without what stands before them", BLOCK, "made.bytes + made.requests * size_of::<Part>()", "made.bytes", "blocks"),
+    ("a block without its head", BLOCK, "(ROOT_AT as usize + root_bytes)", "root_bytes", "blocks"),
+    ("what a board of the other mechanism takes of a block", SHARED, "BOARD_CALLS.size(), M::TRIPLE, N)", "BOARD_CALLS.size(), !M::TRIPLE, N)",
+     "blocks"),
     ("all registers in the block", BLOCK, "MAKING.set(ptr::null()); if let Ok", "if let Ok", "blocks"),
     ("a recovery by the other side's number", BLOCK, "codes[usize::from(!is_writer)]", "codes[usize::from(is_writer)]", "blocks"),
     *[(f"a recovery without {what}", BLOCK, f"side.set(lies::{old});", "", "blocks")

@@ -138,6 +138,8 @@ static void make_all(nidzaru_shared *block, struct plant *plant) {
     is("a register over a triple buffer", plans_shared_make(block, &plant->plans, &plan), 0);
     is("a board", turns_shared_make(block, &plant->turns, &first), 0);
     holds("all memory was the block's", mallocs == before && nidzaru_shared_left(block) < left);
+    holds("what makes take", left - nidzaru_shared_left(block)
+          == limits_shared_make_bytes() + plans_shared_make_bytes() + turns_shared_make_bytes());
     holds("a handle leads into the block", nidzaru_lies_in(block, plant->limits.writer.handle.side.at));
 }
 
@@ -152,10 +154,12 @@ static void refuse_memory(void) {
     const size_t before = mallocs;
     is("a block of no room", plant_create(&small, NIDZARU_NOWHERE, 4096, &plant), NIDZARU_NO_MEMORY);
     is("a block for children", plant_create(&small, NIDZARU_NOWHERE, bytes, &plant), 0);
-    holds("what is left", nidzaru_shared_left(&small) < bytes);
+    holds("what is left", nidzaru_shared_left(&small) == bytes - plant_create_bytes());
     small.head->used = small.head->bytes - 64;
     is("no room", limits_shared_make(&small, &plant->limits, &first), NIDZARU_NO_MEMORY);
-    small.head->used = small.head->bytes - 4096;
+    small.head->used = small.head->bytes - limits_shared_make_bytes() + 16;
+    is("no room for the last part", limits_shared_make(&small, &plant->limits, &first), NIDZARU_NO_MEMORY);
+    small.head->used = small.head->bytes - limits_shared_make_bytes();
     is("room", limits_shared_make(&small, &plant->limits, &first), 0);
     is("a name of no file", nidzaru_shared_unlink(&small, second), NIDZARU_SHARED_NO_BLOCK);
     is("a detach", nidzaru_shared_detach(&small), 0);

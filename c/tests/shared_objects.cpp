@@ -28,6 +28,7 @@ static_assert(sizeof(register_of) == sizeof(in_c_shared) && alignof(register_of)
               "a register's layout is that of C");
 static_assert(sizeof(triple_of) == sizeof(triple_in_c_shared), "a triple buffer's layout is that of C");
 static_assert(sizeof(board_of) == sizeof(board_in_c_shared), "a board's layout is that of C");
+constexpr std::size_t make_bytes = register_of::make_bytes() + triple_of::make_bytes() + board_of::make_bytes();
 
 struct plant {
     static constexpr const char *shared_name = "struct plant";
@@ -182,6 +183,7 @@ int main() {
         registers(it);
         triples(it);
         boards(it);
+        check(it.left() == (std::size_t{1} << 20) - block::create_bytes() - make_bytes, "what makes take");
         check(it.detach() == NIDZARU_DONE && !it, "each claim went");
     }
     names();

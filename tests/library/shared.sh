@@ -122,6 +122,9 @@ plant_class_faults() {
     planted_class 's/Root::shared_name, sizeof(Root)/"", sizeof(Root)/' 'an attach of another type'
     planted_class 's/if (block.head) return NIDZARU_IN_USE;//' 'a block in the place'
     planted_class 's/    char apart\[NIDZARU_APART\];//' built
+    planted_class 's/NIDZARU_SHARED_PART \* writer/writer/' 'what makes take'
+    planted_class 's/NIDZARU_SHARED_PART \* place/place/' 'what makes take'
+    planted_class 's/return NIDZARU_SHARED_HEAD + (sizeof/return (sizeof/' 'what makes take'
     catches "an edit of a comment alone" "it isn't seen" planted_class '1s/ / more /' '.*'
 }
 
@@ -256,7 +259,10 @@ plant_faults() {
     planted 's/if (at % 8 || at < from.*/if (0) return NIDZARU_NOWHERE;/' 'a recovery of what leads elsewhere'
     planted '/if (!size) return NIDZARU_SHARED_LOST;/d' 'a recovery over a triple buffer'
     planted 's/is_writer ? item->writer : item->reader/is_writer ? item->reader : item->writer/' 'its number is back'
-    planted 's/  __atomic_store_n(&item->state, status ? NIDZARU_ITEM_EMPTY : NIDZARU_ITEM_MADE/  __atomic_store_n(\&item->state, NIDZARU_ITEM_MADE/' 'room'
+    planted 's/  __atomic_store_n(&item->state, status ? NIDZARU_ITEM_EMPTY : NIDZARU_ITEM_MADE/  __atomic_store_n(\&item->state, NIDZARU_ITEM_MADE/' 'no room for the last part'
+    planted 's/ + NIDZARU_SHARED_PART \* NIDZARU_MAKE_REQUESTS(name)//' 'what makes take'
+    planted 's/ + NIDZARU_SHARED_PART \* NIDZARU_BOARD_MAKE_REQUESTS(name, count)//' 'what makes take'
+    planted 's/return NIDZARU_SHARED_HEAD + (sizeof/return (sizeof/' 'what is left'
     catches "an edit of a comment alone" "it isn't seen" planted '1s/ / more /' '.*'
 }
 

@@ -3,6 +3,7 @@
 //! The layout and what each call does are those of `nidzaru_shared.h`, so that programs in C, C++ and Rust attach to one block.
 #![allow(unsafe_code)]
 
+use crate::memory::Memory;
 use crate::raw::{self, Live};
 use core::cell::{Cell, UnsafeCell};
 use core::ffi::{c_int, c_void};
@@ -252,6 +253,16 @@ struct Part {
 thread_local! {
     /// The block in which this thread makes a register or board.
     static MAKING: Cell<*const Head> = const { Cell::new(ptr::null()) };
+}
+
+/// How many bytes of a block parts for all that a make asks for take.
+pub const fn bytes_of(made: Memory) -> usize {
+    made.bytes + made.requests * size_of::<Part>()
+}
+
+/// How many bytes a block takes that begins with an object of so many, before anything is made in it.
+pub const fn bytes_before(root_bytes: usize) -> usize {
+    (ROOT_AT as usize + root_bytes).next_multiple_of(LINE as usize)
 }
 
 /// A part of the block; null where so much isn't left.

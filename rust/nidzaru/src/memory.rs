@@ -42,7 +42,7 @@ const fn lines(bytes: usize) -> usize {
     bytes.next_multiple_of(64) + 64
 }
 
-const fn of_register(size: usize, triple: bool) -> Memory {
+pub(crate) const fn of_register(size: usize, triple: bool) -> Memory {
     // A slot is a record and its number. The slots are first put into a list, which has room for four at once, or if they are large for one, two
     // and four; then they lie beside the control words. Both sides share a block that leads there, and each has one of its own.
     let slot = size + 8;
@@ -53,7 +53,7 @@ const fn of_register(size: usize, triple: bool) -> Memory {
     Memory { bytes, requests: if grows { 8 } else { 6 } }
 }
 
-const fn of_board(size: usize, triple: bool, n: usize) -> Memory {
+pub(crate) const fn of_board(size: usize, triple: bool, n: usize) -> Memory {
     // Words and slots of all registers are first put into a list each. A seat is what a place knows of the registers, a pass all that it has:
     // there are two lists of seats and one of passes, two of places and one of what handles lead to. The board is a block, and each place has two.
     let (stride, slots, stored) = if triple { (8, 3, 272) } else { (16, 4, 528) };

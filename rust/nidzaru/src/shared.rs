@@ -38,7 +38,7 @@
 use crate::block::{self, Claim, Claimed, Handle, Item, Mapped, APART};
 use crate::boards::Stamp;
 use crate::raw::{self, BoardCalls, Calls};
-use crate::{FourSlot, Mechanism, Refused, Triple};
+use crate::{memory, FourSlot, Mechanism, Refused, Triple};
 use core::fmt;
 use core::marker::PhantomData;
 
@@ -176,6 +176,9 @@ pub struct Block<R: Root> {
 impl<R: Root> Block<R> {
     const KIND: u64 = block::kind_of(R::NAME, size_of::<R>(), align_of::<R>());
 
+    /// How many bytes a block takes where nothing is made in it: those of all makes are to be added.
+    pub const CREATE_BYTES: usize = block::bytes_before(size_of::<R>());
+
     /// Makes a block of this name, which begins with `/` and has no other one, and of so many bytes, with mode 0600. It begins with an `R`,
     /// all zeros. Its pages are taken at once.
     ///
@@ -257,6 +260,9 @@ pub struct Register<T: Record, M: Mechanism = FourSlot> {
 }
 
 impl<T: Record, M: Mechanism> Register<T, M> {
+    /// How many bytes of the block a make takes, exactly.
+    pub const MAKE_BYTES: usize = block::bytes_of(memory::of_register(Known::<T, M>::CALLS.size(), M::TRIPLE));
+
     /// Makes the register, which holds `first`. BlockError with [`BlockError::InUse`] if it is made.
     pub fn make<R: Root>(&self, block: &Block<R>, first: &T) -> Result<(), BlockError> {
         let [writer, reader] = &self.sides;
@@ -389,6 +395,9 @@ pub struct Board<T: Record, const N: usize, M: Mechanism = FourSlot> {
 
 impl<T: Record, const N: usize, M: Mechanism> Board<T, N, M> {
     const KIND: u64 = Known::<T, M>::BOARD_KIND.wrapping_add(N as u64);
+
+    /// How many bytes of the block a make takes, exactly.
+    pub const MAKE_BYTES: usize = block::bytes_of(memory::of_board(Known::<T, M>::BOARD_CALLS.size(), M::TRIPLE, N));
 
     /// Makes the board, which holds `first`. BlockError with [`BlockError::InUse`] if it is made.
     pub fn make<R: Root>(&self, block: &Block<R>, first: &T) -> Result<(), BlockError> {

@@ -34,6 +34,12 @@ nidzaru::shared_block! {
 
 const BYTES: usize = 1 << 20;
 
+/// What all makes of a [`Plant`] take, but those of `later`.
+const MAKE_BYTES: usize = Register::<Limits>::MAKE_BYTES
+    + Register::<Plan, Triple>::MAKE_BYTES
+    + Board::<Limits, 3>::MAKE_BYTES
+    + Board::<Limits, 3, Triple>::MAKE_BYTES;
+
 fn limits(n: u64) -> Limits {
     Limits { low: n, at: n + 1, high: n + 2 }
 }
@@ -63,8 +69,11 @@ fn make(test: &str) -> Made {
     let root = block.root();
     root.limits.make(&block, &limits(0)).unwrap();
     root.plans.make(&block, &Plan { words: [0; 32] }).unwrap();
+    let left = block.left();
     root.turns.make(&block, &limits(0)).unwrap();
+    assert_eq!(left - block.left(), Board::<Limits, 3>::MAKE_BYTES);
     root.fast_turns.make(&block, &limits(0)).unwrap();
+    assert_eq!(BYTES - block.left(), Block::<Plant>::CREATE_BYTES + MAKE_BYTES);
     Made { name, block }
 }
 
@@ -246,8 +255,9 @@ fn memory_is_the_blocks_alone() {
     let block = unsafe { Block::<Other>::create(&name, 3 * 4096) }.unwrap();
     block.unlink(&name).unwrap();
     let before = block.left();
+    assert_eq!(before, 3 * 4096 - Block::<Other>::CREATE_BYTES);
     block.root().limits.make(&block, &limits(3)).unwrap();
-    assert!(block.left() < before && before - block.left() >= 4 * 32);
+    assert_eq!(before - block.left(), Register::<Limits>::MAKE_BYTES);
     // A register of the process itself takes nothing of it.
     let (left, mut own) = (block.left(), nidzaru::register(limits(4)).unwrap());
     assert_eq!((block.left(), own.1.latest()), (left, limits(4)));
