@@ -2,7 +2,9 @@
 # Registers and boards between processes, over the library that is installed under PREFIX: what is refused, processes that are killed at
 # random and after each instruction, the crate for Rust beside C, and the header with faults planted, which these have to refuse. With KILLS
 # the random ones alone, so many of each kind from this seed, or of one kind, as -DBYTES=24,-DTRIPLE; with `stand` the victims whose sides are
-# recovered beside calls that stand. The last line is the sums. usage: tests/library/shared.sh [PREFIX [KILLS|stand [SEED [KIND]]]]
+# recovered beside calls that stand; with `installed` what needs no source tree, over the headers of PREFIX, with this script's own files alone:
+# tests/library/shared.sh, tests/gate/outcomes.sh, c/tests/shared* and examples/c/processes.c. The last line is the sums.
+# usage: tests/library/shared.sh [PREFIX [KILLS|stand|installed [SEED [KIND]]]]
 cd "$(dirname -- "$(readlink -f -- "$0")")/../.." || exit 1
 prefix=$1 many=$2 seed=${3:-1} one_kind=$4
 most=${many:+36000}
@@ -13,6 +15,8 @@ trap 'exit 1' HUP INT TERM
 passed=0 failed=0
 strict='-Wall -Wextra -Wpedantic -Werror -O2 -pthread'
 library=$prefix/lib/libnidzaru.a
+headers=c
+[ "$many" != installed ] || headers=$prefix/include most=
 refusals='-D_GNU_SOURCE -Wl,--wrap=malloc,--wrap=free'
 kinds='-DBYTES=24 -DBYTES=24,-DTRIPLE -DBYTES=4096 -DBYTES=4096,-DTRIPLE -DBYTES=24,-DBOARD -DBYTES=24,-DBOARD,-DTRIPLE'
 
@@ -21,7 +25,7 @@ kinds='-DBYTES=24 -DBYTES=24,-DTRIPLE -DBYTES=4096 -DBYTES=4096,-DTRIPLE -DBYTES
 builds() {
     folder=$1 source=$2
     shift 2
-    "$@" -I "$folder" -I c "$source" -x none "$library" -o "$room/program" >"$room/built" 2>&1
+    "$@" -I "$folder" -I "$headers" "$source" -x none "$library" -o "$room/program" >"$room/built" 2>&1
 }
 
 # Sees that what was built says this in its last line.
@@ -41,7 +45,7 @@ says() {
 program() {
     title=$1 wanted=$2 source=$3
     shift 3
-    if builds c "$source" "$@" $strict; then
+    if builds "$headers" "$source" "$@" $strict; then
         says "$title" "$wanted" $words
     else
         fail "$title" "it wasn't built: $(head -n 3 "$room/built" | tr '\n' ' ')"
@@ -147,21 +151,23 @@ drives() {
     fi
 }
 
-# Two programs in C, of one build of the library and of two; and C beside Rust.
+# Two programs in C, of one build of the library and of two.
 try_pairs() {
     own=$library
-    if builds c examples/c/processes.c gcc -std=gnu11 $strict && cp "$room/program" "$room/in_c" && other_build && library=$room/other/libnidzaru.a \
-        && builds c examples/c/processes.c gcc -std=gnu11 $strict && cp "$room/program" "$room/of_other"; then
+    if builds "$headers" examples/c/processes.c gcc -std=gnu11 $strict && cp "$room/program" "$room/in_c" && other_build \
+        && library=$room/other/libnidzaru.a \
+        && builds "$headers" examples/c/processes.c gcc -std=gnu11 $strict && cp "$room/program" "$room/of_other"; then
         drives "two programs in C" 'none was torn' "$room/in_c" "$room/in_c"
         drives "a driver over another build of the library" 'driver: the block is of another library' "$room/in_c" "$room/of_other"
     else
         fail "two builds of the library" "they weren't built: $(head -n 3 "$room/built" | tr '\n' ' ')"
     fi
     library=$own
-    ! command -v cargo >/dev/null 2>&1 || try_rust
 }
 
+# The crate for Rust, and C beside Rust.
 try_rust() {
+    command -v cargo >/dev/null 2>&1 || return 0
     cp -r rust/nidzaru "$room/rust"
     in_rust="env PKG_CONFIG_PATH=$prefix/lib/pkgconfig CARGO_TARGET_DIR=$room/target"
     at="--release --offline --quiet --features shared --manifest-path $room/rust/Cargo.toml"
@@ -183,7 +189,7 @@ try_rust() {
 # A client of JACK, where its server is, over each register and a mutex. (Of a time nothing is asked here: bench/README.md has what was measured.)
 try_jack() {
     command -v jackd >/dev/null 2>&1 || return 0
-    if ! builds c examples/c/jack.c gcc -std=gnu11 $strict -Wl,--no-as-needed -ljack; then
+    if ! builds "$headers" examples/c/jack.c gcc -std=gnu11 $strict -Wl,--no-as-needed -ljack; then
         fail "examples/c/jack.c" "it wasn't built: $(head -n 3 "$room/built" | tr '\n' ' ')"
         return
     fi
@@ -203,7 +209,7 @@ try_jack() {
 # What stands in the register's place and isn't one.
 #   control FLAG SAID
 control() {
-    if builds c c/tests/shared_kills.c gcc -std=gnu11 -w -O2 -pthread -DBYTES=256 "$1" && ! timeout 120 "$room/program" 2000 1 >"$room/said" 2>&1 \
+    if builds "$headers" c/tests/shared_kills.c gcc -std=gnu11 -w -O2 -pthread -DBYTES=256 "$1" && ! timeout 120 "$room/program" 2000 1 >"$room/said" 2>&1 \
         && tail -n 1 "$room/said" | grep -qx "$2"; then
         pass "planted: $1"
     else
@@ -223,6 +229,33 @@ try_headers() {
             || program "c/tests/shared_objects.cpp ($cpp)" 'each object has its claim' c/tests/shared_objects.cpp "$cpp" -std=c++17 -D_GNU_SOURCE
     done
     program "examples/c/processes.c" '.* none was torn' examples/c/processes.c gcc -std=gnu11
+}
+
+# What needs no source tree, over the headers of the prefix.
+try_installed() {
+    try_headers
+    kill_all 10
+    try_pairs
+}
+
+# The same by a copy of this script's own files, over the library that is installed in this folder.
+#   by_own_files PREFIX
+by_own_files() {
+    rm -rf "$room/own" && mkdir "$room/own" \
+        && tar -c tests/library/shared.sh tests/gate/outcomes.sh c/tests/shared* examples/c/processes.c | tar -x -C "$room/own"
+    if "$room/own/tests/library/shared.sh" "$1" installed >"$room/told" 2>&1; then
+        pass "over the installed headers alone: $(tail -n 1 "$room/told")"
+    else
+        fail "over the installed headers alone" "$(grep -m 1 FAILED "$room/told")"
+    fi
+}
+
+# That, and the same over a prefix that lacks the header.
+try_own_files() {
+    at=$(readlink -f -- "$prefix")
+    by_own_files "$at"
+    mkdir -p "$room/lacking/include" && cp -r "$at/lib" "$room/lacking/" && cp "$at/include/nidzaru.h" "$at/include/nidzaru_shared.hpp" "$room/lacking/include/"
+    catches "a prefix without nidzaru_shared.h" "it wasn't built" by_own_files "$room/lacking"
 }
 
 # One fault after the other.
@@ -282,6 +315,8 @@ if [ -z "$prefix" ]; then
 elif [ "$many" = stand ]; then
     words=1
     program "killed, recovered, beside a call that stands" '.*, nothing found' c/tests/shared_steps.c gcc -std=gnu11 -DBYTES=24
+elif [ "$many" = installed ]; then
+    try_installed
 elif [ -n "$many" ]; then
     kill_all "$many"
 elif command -v gcc >/dev/null 2>&1; then
@@ -297,6 +332,8 @@ elif command -v gcc >/dev/null 2>&1; then
     done
     words=
     try_pairs
+    try_rust
+    try_own_files
     try_jack
     control -DPLAIN 'a torn record'
     control -DSEQUENCE 'a read that waits for a dead process'
