@@ -17,6 +17,10 @@ pub trait Object: Copy {
     fn is_pure(what: Self::What) -> bool
         ensures { IsTrue result → (s t : Self) → after s what ≡ Some t → t ≡ s };
 
+    /// Whether two operations make the same step in every state. `false` is always right.
+    fn is_same(what: Self::What, other: Self::What) -> bool
+        ensures { IsTrue result → (s : Self) → after s what ≡ after s other };
+
     /// Whether two states are the same.
     fn is(self, other: Self) -> bool
         ensures { IsTrue result ↔ (self ≡ other) };

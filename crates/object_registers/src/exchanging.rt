@@ -69,6 +69,12 @@ impl Object for Exchanging {
         }
     }
 
+    fn is_same(what: Exchange, other: Exchange) -> bool
+        ensures { IsTrue result → (s : Exchanging) → exchanging_after s what ≡ exchanging_after s other }
+    {
+        what == other
+    }
+
     fn is(self, other: Self) -> bool
         ensures { IsTrue result ↔ (self ≡ other) }
     {

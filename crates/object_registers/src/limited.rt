@@ -56,6 +56,12 @@ impl Object for Limited {
         }
     }
 
+    fn is_same(what: Access, other: Access) -> bool
+        ensures { IsTrue result → (s : Limited) → limited_after s what ≡ limited_after s other }
+    {
+        what == other
+    }
+
     fn is(self, other: Self) -> bool
         ensures { IsTrue result ↔ (self ≡ other) }
     {

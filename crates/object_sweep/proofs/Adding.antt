@@ -9,13 +9,13 @@ use Rattle.object_sweep.specs.inner.Steps.{AnyCanFinish, AreExplored, AreSound, 
 use Rattle.object_sweep.specs.inner.Steps.{IsCopyAt, IsExplored, IsGrown, IsHandled, IsIdle, IsLeftOut, IsMadeOf, IsPassed, IsPureNext}
 use Rattle.object_sweep.specs.inner.Steps.{IsPut, IsPutIn, IsSorted, IsSureAndPure, IsTried, IsVisited, made_by}
 use Rattle.object_sweep.specs.inner.Steps.IsHandled.{Tries, Places as PlacesPure}
-use Rattle.object_sweep.specs.inner.Steps.{may_be_left_out, maybe_of, step_from}
+use Rattle.object_sweep.specs.inner.Steps.{IsPlacedFor, may_be_left_out, maybe_of, MayStandFor, StandsFor, step_from}
 use Rattle.object_sweep.specs.Reached.{AreApart, AreReachable, AreTooMany, is_closed, is_in, IsHeld, IsNextEnd, IsReachable, IsSameAs}
 use Rattle.object_sweep.specs.Reached.{is_within}
 use Rattle.object_sweep.specs.Reached.{without}
 use Rattle.object_sweep.specs.Reached.IsReachable.{Places, Ends}
 use Rattle.object_sweep.specs.Rests.{CanPlace, RunForwards}
-use Rattle.object_sweep.proofs.Lists.{closed_behind, get_front, get_last, get_push, is_in_at, is_in_push, same_if, without_none}
+use Rattle.object_sweep.proofs.Lists.{at_is_in, closed_behind, get_front, get_last, get_push, is_in_at, is_in_push, same_if, without_none}
 use Rattle.object_sweep.proofs.Lists.{without_push}
 use Rattle.object_sweep.proofs.Lists.{within_itself}
 use Rattle.object_sweep.proofs.Placed.{same_number}
@@ -269,41 +269,64 @@ module _ {S W : Type 0} (after : S → W → Option S) (log : List (Operation W)
             waiting' kept' (may_be_left_out log ending) refl h;
       }
 
-  either_grown : (ending q : ℕ) (t : S) (placed : List ℕ) (waiting kept waiting' kept' : List (Configuration S)) →
+  either_grown : (under_way : List ℕ) (ending q : ℕ) (t : S) (placed : List ℕ) (waiting kept waiting' kept' : List (Configuration S)) →
       IsGrown waiting waiting' → IsGrown kept kept' →
-      IsIdle after (slice_get log q) ⊎ IsPutIn (nat_eq q ending) q t placed waiting kept →
-      IsIdle after (slice_get log q) ⊎ IsPutIn (nat_eq q ending) q t placed waiting' kept'
-  either_grown ending q t placed waiting kept waiting' kept' w k (inl idle) = inl idle
-  either_grown ending q t placed waiting kept waiting' kept' w k (inr put) =
-      inr (put_in_grown (nat_eq q ending) q t placed waiting kept waiting' kept' w k put)
+      IsIdle after (slice_get log q) ⊎ IsPlacedFor after log under_way ending placed q t waiting kept →
+      IsIdle after (slice_get log q) ⊎ IsPlacedFor after log under_way ending placed q t waiting' kept'
+  either_grown under_way ending q t placed waiting kept waiting' kept' w k (inl idle) = inl idle
+  either_grown under_way ending q t placed waiting kept waiting' kept' w k (inr p) =
+      inr (p.0, p.1, put_in_grown (nat_eq p.0 ending) p.0 t placed waiting kept waiting' kept' w k p.2)
 
-  pub explored_more : (under_way : List ℕ) (ending : ℕ) (s : S) (placed : List ℕ) (n q : ℕ) → slice_get under_way n ≡ Some q →
-      (waiting kept waiting' kept' waiting'' kept'' : List (Configuration S)) →
+  -- what is placed for another one leads to the same state
+  made_for : (s t : S) (m n : Option (Operation W)) → MayStandFor after m n → made_by after s n ≡ Some t → made_by after s m ≡ Some t
+  made_for s t (Some a) (Some b) h e = h.same s ∙ e
+  made_for s t (Some a) None h e = absurd h
+  made_for s t None n h e = absurd h
+
+  stepped_for : (under_way : List ℕ) (s : S) (placed : List ℕ) (r q : ℕ) (t : S) → StandsFor after log under_way placed r q →
+      step_from after log s placed q ≡ Some t → step_from after log s placed r ≡ Some t
+  stepped_for under_way s placed r q t (inl same) e = ap (step_from after log s placed) same ∙ e
+  stepped_for under_way s placed r q t (inr for) e =
+      let p = step_parts after s log s placed q t e in
+      ap (λ b. cond b None (made_by after s (slice_get log r))) for.1 ∙ made_for s t (slice_get log r) (slice_get log q) for.2 p.1
+
+  place_for : (under_way placed : List ℕ) (n r q : ℕ) → slice_get under_way n ≡ Some q → StandsFor after log under_way placed r q →
+      (m : ℕ) × (slice_get under_way m ≡ Some r)
+  place_for under_way placed n r q at (inl same) = (n, at ∙ ap Some (sym same))
+  place_for under_way placed n r q at (inr for) = at_is_in under_way r for.0
+
+  pub explored_more : (under_way : List ℕ) (ending : ℕ) (s : S) (placed : List ℕ) (n q r : ℕ) → slice_get under_way n ≡ Some q →
+      StandsFor after log under_way placed r q → (waiting kept waiting' kept' waiting'' kept'' : List (Configuration S)) →
       IsExplored after log under_way ending s placed n waiting kept waiting' kept' →
-      IsTried (step_from after log s placed q) ending placed q waiting' kept' waiting'' kept'' →
+      IsTried (step_from after log s placed r) ending placed r waiting' kept' waiting'' kept'' →
       IsExplored after log under_way ending s placed (n + 1) waiting kept waiting'' kept''
-  explored_more under_way ending s placed n q at waiting kept waiting' kept' waiting'' kept'' yet h = record {
+  explored_more under_way ending s placed n q r at stands waiting kept waiting' kept' waiting'' kept'' yet h = record {
     grown_waiting = λ i one e. f.0 i one (yet.grown_waiting i one e);
     grown_kept = λ i one e. f.1 i one (yet.grown_kept i one e);
     left_out = λ e. held_grown kept' kept'' s placed f.1 (yet.left_out e);
     tried = tried;
-    sound = λ opening ended end next way r lack before. tried_sound after opening log ended under_way ending end next way s placed n q at r
-        lack waiting' kept' waiting'' kept'' (step_from after log s placed q) refl h (yet.sound opening ended end next way r lack before);
+    sound = λ opening ended end next way reached lack before. tried_sound after opening log ended under_way ending end next way s placed
+        there.0 r there.1 reached lack waiting' kept' waiting'' kept'' (step_from after log s placed r) refl h
+        (yet.sound opening ended end next way reached lack before);
   }
     where
-      f : IsGrown waiting' waiting'' × IsGrown kept' kept'' ×
-          ((t : S) → step_from after log s placed q ≡ Some t → IsPutIn (nat_eq q ending) q t placed waiting'' kept'')
-      f = tried_facts (step_from after log s placed q) ending placed q waiting' kept' waiting'' kept'' h
+      there : (m : ℕ) × (slice_get under_way m ≡ Some r)
+      there = place_for under_way placed n r q at stands
 
-      tried : (j r : ℕ) (t : S) → j < n + 1 → slice_get under_way j ≡ Some r → step_from after log s placed r ≡ Some t →
-          IsIdle after (slice_get log r) ⊎ IsPutIn (nat_eq r ending) r t placed waiting'' kept''
-      tried j r t l there e = elim (cases_lt j n) [
-        | inl less ↦ either_grown ending r t placed waiting' kept' waiting'' kept'' f.0 f.1 (yet.tried j r t less there e)
+      f : IsGrown waiting' waiting'' × IsGrown kept' kept'' ×
+          ((t : S) → step_from after log s placed r ≡ Some t → IsPutIn (nat_eq r ending) r t placed waiting'' kept'')
+      f = tried_facts (step_from after log s placed r) ending placed r waiting' kept' waiting'' kept'' h
+
+      tried : (j p : ℕ) (t : S) → j < n + 1 → slice_get under_way j ≡ Some p → step_from after log s placed p ≡ Some t →
+          IsIdle after (slice_get log p) ⊎ IsPlacedFor after log under_way ending placed p t waiting'' kept''
+      tried j p t l at_p e = elim (cases_lt j n) [
+        | inl less ↦ either_grown under_way ending p t placed waiting' kept' waiting'' kept'' f.0 f.1 (yet.tried j p t less at_p e)
         | inr le ↦
             let same : j ≡ n = omega arith in
-            let one : q ≡ r = same_Some q r (sym at ∙ (ap (slice_get under_way) (sym same) ∙ there)) in
-            let P : ℕ → Type 0 = λ z. IsPutIn (nat_eq z ending) z t placed waiting'' kept'' in
-            inr (subst P one (f.2 t (ap (step_from after log s placed) one ∙ e)))
+            let one : q ≡ p = same_Some q p (sym at ∙ (ap (slice_get under_way) (sym same) ∙ at_p)) in
+            let P : ℕ → Type 0 = λ z. IsPlacedFor after log under_way ending placed z t waiting'' kept'' in
+            let step_q : step_from after log s placed q ≡ Some t = ap (step_from after log s placed) one ∙ e in
+            inr (subst P one (r, stands, f.2 t (stepped_for under_way s placed r q t stands step_q)))
       ]
 
   pub explored_idle : (under_way : List ℕ) (ending : ℕ) (s : S) (placed : List ℕ) (n q : ℕ) → slice_get under_way n ≡ Some q →
@@ -319,7 +342,7 @@ module _ {S W : Type 0} (after : S → W → Option S) (log : List (Operation W)
   }
     where
       tried : (j r : ℕ) (t : S) → j < n + 1 → slice_get under_way j ≡ Some r → step_from after log s placed r ≡ Some t →
-          IsIdle after (slice_get log r) ⊎ IsPutIn (nat_eq r ending) r t placed waiting' kept'
+          IsIdle after (slice_get log r) ⊎ IsPlacedFor after log under_way ending placed r t waiting' kept'
       tried j r t l there e = elim (cases_lt j n) [
         | inl less ↦ yet.tried j r t less there e
         | inr le ↦
@@ -333,7 +356,7 @@ module _ {S W : Type 0} (after : S → W → Option S) (log : List (Operation W)
       IsHandled after log under_way ending s placed waiting' kept'
   handled_grown under_way ending s placed waiting kept waiting' kept' w k (Tries h) = Tries (record {
     left_out = λ e. held_grown kept kept' s placed k (h.left_out e);
-    tried = λ j q t at e. either_grown ending q t placed waiting kept waiting' kept' w k (h.tried j q t at e);
+    tried = λ j q t at e. either_grown under_way ending q t placed waiting kept waiting' kept' w k (h.tried j q t at e);
   })
   handled_grown under_way ending s placed waiting kept waiting' kept' w k (PlacesPure q o t at sure there free step put) =
       PlacesPure q o t at sure there free step (put_in_grown (nat_eq q ending) q t placed waiting kept waiting' kept' w k put)

@@ -1,19 +1,21 @@
 -- One end, exact both ways: what is reached leads back to the opening, and what can be finished is kept.
-use Rattle.std.proofs.Common.{◌≡◌, ℕ, ◌<◌, ◌≤◌, Bool, true, false, ◌||◌, nat_eq, List, [], ◌∷◌, ◌++◌, length, slice_get}
-use Rattle.std.proofs.Common.{Option, Some, zero, suc, refl, sym, ◌∙◌, ap, subst, arith, ◌⊎◌, inl, inr}
-use Rattle.std.proofs.lemmas.Bool.{cases_Bool, cases_lt, or_parts}
+use Rattle.std.proofs.Common.{◌≡◌, ◌≢◌, ℕ, ◌<◌, ◌≤◌, Bool, true, false, ◌||◌, nat_eq, List, [], ◌∷◌, ◌++◌, length, map, slice_get}
+use Rattle.std.proofs.Common.{Option, None, Some, zero, suc, refl, sym, ◌∙◌, ap, subst, arith, ◌⊎◌, inl, inr}
+use Rattle.std.proofs.lemmas.Bool.{cases_Bool, cases_eq, cases_lt, or_parts}
+use Rattle.std.proofs.lemmas.Option.{same_Some}
 use Rattle.history_core.specs.Orders.{times_of}
 use Rattle.object_core.specs.declared.operation.Operation.{Operation}
 use Rattle.object_core.specs.Logs.{is_due}
 use Rattle.object_sweep.specs.declared.configuration.Configuration.{Configuration}
 use Rattle.object_sweep.specs.inner.Steps.{AnyCanFinish, AreTried, AreUnderWay, IsHandled, IsIdle, IsPutIn, IsSureAndPure, may_be_left_out}
-use Rattle.object_sweep.specs.inner.Steps.{maybe_of, step_from}
+use Rattle.object_sweep.specs.inner.Steps.{IsPlacedFor, maybe_of, MayStandFor, step_from}
 use Rattle.object_sweep.specs.inner.Steps.IsHandled.{Tries, Places as PlacesPure}
 use Rattle.object_sweep.specs.Reached.{is_closed, is_in, IsHeld, IsNextEnd, IsReachable, IsSameAs, MayBeLeftOut, without}
 use Rattle.object_sweep.specs.Reached.IsReachable.{Opens, Places, Ends}
 use Rattle.object_sweep.specs.Rests.{CanFinish, CanPlace, IsRest, MayStandBehind, NoOpenEndBefore, RunForwards}
 use Rattle.object_sweep.proofs.Lists.{at_is_in, closed_behind, closed_ended, closed_left_out, closed_placed, same_closed, same_if}
 use Rattle.object_sweep.proofs.Placed.{complete_tail, dropped, sound, times_here, undropped}
+use Rattle.object_sweep.proofs.InPlace.{in_place, long_renamed, renamed}
 use Rattle.object_sweep.proofs.Pure.{shorter, without_idle, without_pure}
 
 module _ {S W : Type 0} (after : S → W → Option S) (log : List (Operation W)) where
@@ -138,7 +140,7 @@ module _ {S W : Type 0} (after : S → W → Option S) (log : List (Operation W)
           in
           elim (put c.0 c.1) [
             | inl idle ↦ does_without c.1.0 c.1.1 (subst (λ (z : Option (Operation W)). IsIdle after z) c.1.1 idle)
-            | inr p ↦ goes_on one q c.0 p rest c.2 (λ i other at r. more i other at rest r (omega arith))
+            | inr p ↦ placed_for c.0 c.1 c.2 p
           ]
     ]
       where
@@ -148,8 +150,42 @@ module _ {S W : Type 0} (after : S → W → Option S) (log : List (Operation W)
             more j one there (without q (q ∷ rest)) (without_idle after log q o at idle.1 idle.0 (is_closed ended one.placed.items)
             one.state (q ∷ rest) h) (shorter q (q ∷ rest) stands)
 
+        placed_for : (t : S) → CanPlace after log (is_closed ended one.placed.items) end one.state q t →
+            IsRest after log (λ z. is_closed ended one.placed.items z || nat_eq z q) t rest →
+            IsPlacedFor after log under_way ending one.placed.items q t waiting kept → AnyCanFinish after log (ending ∷ ended) kept
+        placed_for t can r (p, inl same, held) =
+            let P : ℕ → Type 0 = λ z. IsPutIn (nat_eq z ending) z t one.placed.items waiting kept in
+            goes_on one q t (subst P same held) rest r (λ i other at r'. more i other at rest r' (omega arith))
+        placed_for t can r (p, inr for, held) = elim (cases_eq p q) [
+          | inl same ↦
+              let P : ℕ → Type 0 = λ z. IsPutIn (nat_eq z ending) z t one.placed.items waiting kept in
+              goes_on one q t (subst P same held) rest r (λ i other at r'. more i other at rest r' (omega arith))
+          | inr ne ↦ in_place_of (slice_get log p) (slice_get log q) refl refl for.2 ne
+        ]
+          where
+            free : is_closed ended one.placed.items p ≡ false
+            free = both (is_in p ended) (is_in p one.placed.items) (way.begun p for.0).3 for.1
+              where
+                both : (a b : Bool) → a ≡ false → b ≡ false → (a || b) ≡ false
+                both false b f g = g
+                both true b f g = cc
+
+            last : NoOpenEndBefore log (is_closed ended one.placed.items) end
+            last z at a yet za ends = next.4 z at a (or_parts (is_in z ended) (is_in z one.placed.items) yet).0 za ends
+
+            in_place_of : (m n : Option (Operation W)) → slice_get log p ≡ m → slice_get log q ≡ n → MayStandFor after m n → p ≢ q →
+                AnyCanFinish after log (ending ∷ ended) kept
+            in_place_of (Some a) (Some b) pa qb h ne =
+                let starts : b.starts ≤ end =
+                subst (λ (z : Operation W). z.starts ≤ end) (same_Some can.0 b (sym can.1 ∙ qb)) can.3 in
+                goes_on one p t held (map (renamed p q) rest) (in_place after log forwards p q a b pa qb h ne
+                (is_closed ended one.placed.items) end last starts can.2 free t rest r) (λ i other at r'. more i other at (map (renamed p q)
+                rest) r' (let l = long_renamed p q rest in omega (arith, l)))
+            in_place_of (Some a) None pa qb h ne = absurd h
+            in_place_of None n pa qb h ne = absurd h
+
         put : (t : S) → CanPlace after log (is_closed ended one.placed.items) end one.state q t →
-            IsIdle after (slice_get log q) ⊎ IsPutIn (nat_eq q ending) q t one.placed.items waiting kept
+            IsIdle after (slice_get log q) ⊎ IsPlacedFor after log under_way ending one.placed.items q t waiting kept
         put t can =
             let open_parts = or_parts (is_in q ended) (is_in q one.placed.items) can.2 in
             let stepped : step_from after log one.state one.placed.items q ≡ Some t = rw (open_parts.1, can.1) can.4 in

@@ -1,6 +1,7 @@
 -- The rules.
 pub mod Placed
 pub mod Pure
+pub mod InPlace
 pub mod Whole
 pub mod Lists
 pub mod Exact

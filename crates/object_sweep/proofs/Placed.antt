@@ -41,7 +41,7 @@ once_follows false true times e h = h
 once_follows false false times e h = omega arith
 
 -- where it stands, it may
-open_where : (f due : Bool) (times : ℕ) → MayStandBehind f due times → 0 < times → f ≡ false
+pub open_where : (f due : Bool) (times : ℕ) → MayStandBehind f due times → 0 < times → f ≡ false
 open_where true due times h l = absurd (omega arith)
 open_where false due times h l = refl
 
@@ -57,11 +57,11 @@ pub or_left : (a b : Bool) → b ≡ false → (a || b) ≡ a
 or_left true b e = refl
 or_left false b e = e
 
-ends_before : (ends : Option ℕ) (n : ℕ) → IsSomeAnd ends (λ end. end < n) → (end : ℕ) × (ends ≡ Some end) × (end < n)
+pub ends_before : (ends : Option ℕ) (n : ℕ) → IsSomeAnd ends (λ end. end < n) → (end : ℕ) × (ends ≡ Some end) × (end < n)
 ends_before None n h = absurd h
 ends_before (Some end) n h = (end, refl, h)
 
-ended_before : (ends : Option ℕ) (end n : ℕ) → ends ≡ Some end → end < n → IsSomeAnd ends (λ end. end < n)
+pub ended_before : (ends : Option ℕ) (end n : ℕ) → ends ≡ Some end → end < n → IsSomeAnd ends (λ end. end < n)
 ended_before ends end n e l = let P : Option ℕ → Type 0 = λ z. IsSomeAnd z (λ end. end < n) in subst P (sym e) l
 
 module _ {S W : Type 0} (after : S → W → Option S) (log : List (Operation W)) where

@@ -13,7 +13,7 @@ use Rattle.object_sweep.specs.Rests.{IsRest, MayStandBehind}
 use Rattle.object_sweep.proofs.Lists.{same_if}
 use Rattle.object_sweep.proofs.Placed.{or_left, or_right, other_number, same_number, times_there}
 
-differ : (p q : ℕ) → nat_eq p q ≡ false → p ≢ q
+pub differ : (p q : ℕ) → nat_eq p q ≡ false → p ≢ q
 differ p q e = grind (arith, nat_tests)
 
 -- how often the others stand there without one

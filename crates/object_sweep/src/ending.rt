@@ -1,12 +1,14 @@
 //! The end of one operation.
 
-ghost use Rattle.std.specs.Prelude.{◌≡◌, ◌<◌, List, nat_eq, length, slice_get, IfNone, IfOk, IfSome, IsTrue, OnOk};
+ghost use Rattle.std.specs.Prelude.{◌≡◌, ℕ, ◌<◌, ◌≤◌, List, nat_eq, length, slice_get, false, Some, IfNone, IfOk};
+ghost use Rattle.std.specs.Prelude.{IfSome, IsTrue, OnOk};
 ghost use Rattle.object_core.specs.declared.operation.Operation.{Operation};
 ghost use Rattle.object_sweep.specs.Reached.{is_in};
 ghost use Rattle.object_sweep.specs.inner.Ends.{AreAlwaysTooMany};
 ghost use Rattle.object_sweep.specs.inner.Steps.{AreStarted, IsClosed, IsCopyAt, IsExplored, IsIdle, IsLeftOut};
 ghost use Rattle.object_sweep.specs.inner.Steps.{IsPassed, IsPureNext, IsPut, IsSorted, IsSureAndPure};
-ghost use Rattle.object_sweep.specs.inner.Steps.{IsTried, IsVisited, may_be_left_out, step_from};
+ghost use Rattle.object_sweep.specs.inner.Steps.{IsInPlaceOf, IsTried, IsVisited, may_be_left_out};
+ghost use Rattle.object_sweep.specs.inner.Steps.{MayStandFor, StandsFor, step_from};
 
 use crate::configuration::{Configuration, add};
 use crate::places::{is_in, with, without};
@@ -119,6 +121,73 @@ fn is_idle<O: Object>(log: &[Operation<O::What>], place: usize) -> bool
     }
 }
 
+/// Whether the first of these ended no later. One that never ended is the last.
+fn ends_no_later(end: Option<u64>, other: Option<u64>) -> bool
+    ensures { IsTrue result → (y : ℕ) → other ≡ Some y → (x : ℕ) × (end ≡ Some x) × (x ≤ y) }
+{
+    match (end, other) {
+        (_, None) => true,
+        (None, Some(_)) => false,
+        (Some(end), Some(other)) => end <= other,
+    }
+}
+
+/// Whether one operation may be placed in the place of another.
+fn is_in_place_of<O: Object>(one: &Operation<O::What>, other: &Operation<O::What>) -> bool
+    ensures { IsTrue result → IsInPlaceOf O.after one.now other.now }
+{
+    O::is_same(one.what, other.what)
+        && (one.ends.is_some() && !one.maybe || other.ends.is_none() || other.maybe)
+        && ends_no_later(one.ends, other.ends)
+}
+
+/// Whether the operation at one place may be placed for that at another.
+fn may_stand_for<O: Object>(log: &[Operation<O::What>], one: usize, other: usize) -> bool
+    ensures { IsTrue result → MayStandFor O.after (slice_get log.now one) (slice_get log.now other) }
+{
+    match log.get(one) {
+        Some(a) => match log.get(other) {
+            Some(b) => is_in_place_of::<O>(a, b),
+            None => false,
+        },
+        None => false,
+    }
+}
+
+/// Whether one that isn't placed may be placed for another, and ends no later than the first so far.
+fn is_sooner<O: Object>(
+    log: &[Operation<O::What>],
+    placed: &[usize],
+    one: usize,
+    first: usize,
+    place: usize,
+) -> bool
+    ensures { IsTrue result → (is_in one placed.now ≡ false)
+        × MayStandFor O.after (slice_get log.now one) (slice_get log.now place) }
+{
+    !is_in(one, placed)
+        && may_stand_for::<O>(log, one, first)
+        && may_stand_for::<O>(log, one, place)
+}
+
+/// Which operation is placed for this one: of those that may be, one that ends first.
+fn first_for<O: Object>(
+    log: &[Operation<O::What>],
+    under_way: &[usize],
+    placed: &[usize],
+    place: usize,
+) -> usize
+    ensures { StandsFor O.after log.now under_way.now placed.now result place }
+{
+    let mut first = place;
+    for other in under_way {
+        if is_sooner::<O>(log, placed, *other, first, place) {
+            first = *other;
+        }
+    }
+    first
+}
+
 /// All that a configuration leads to.
 fn explore<O: Object>(
     alloc: Global,
@@ -135,7 +204,8 @@ fn explore<O: Object>(
     leave_out(alloc, log, ending, from, sets)?;
     for place in under_way {
         if !is_idle::<O>(log, *place) {
-            try_place(alloc, log, ending, from, *place, sets)?;
+            let first = first_for::<O>(log, under_way, from.placed.as_slice(), *place);
+            try_place(alloc, log, ending, from, first, sets)?;
         }
     }
     Ok(())

@@ -51,6 +51,12 @@ impl Object for Lock {
         }
     }
 
+    fn is_same(what: Turn, other: Turn) -> bool
+        ensures { IsTrue result → (s : Lock) → lock_after s what ≡ lock_after s other }
+    {
+        what == other
+    }
+
     fn is(self, other: Self) -> bool
         ensures { IsTrue result ↔ (self ≡ other) }
     {

@@ -186,6 +186,21 @@ fn many_reads(rt: HostRuntime) {
     assert_eq!(rt; sweep(alloc, opening, &log, 2).ok(), Some(Verdict::Lawful));
 }
 
+/// Of 20 equal writes beside another one the first to end is placed alone, before that one or behind it.
+#[test]
+fn many_equal_writes(rt: HostRuntime) {
+    let alloc = rt.alloc();
+    let mut log = [done(1, 100, Exchange::Sets(1)); 21];
+    for k in 1..21 {
+        log[k] = done(2, 50 + k as u64, Exchange::Sets(2));
+    }
+    assert_eq!(rt; of_register(alloc, &log), Some(Verdict::Lawful));
+    let opening = Exchanging { held: 0 };
+    for (budget, wanted) in [(2, Verdict::TooMany { place: 2 }), (3, Verdict::Lawful)] {
+        assert_eq!(rt; sweep(alloc, opening, &log, budget).ok(), Some(wanted));
+    }
+}
+
 /// Two writes side by side make four configurations at the first end, two of which have it behind them.
 #[test]
 fn budgets(rt: HostRuntime) {

@@ -112,13 +112,38 @@ module _ {S W : Type 0} where
   IsIdle after None = ⊥
   IsIdle after (Some o) = (is_due o ≡ false) × IsPure after o
 
+  -- one operation may be placed in another's place: it makes the same step in every state, it surely took effect if the
+  -- other did, and it ended no later
+  pub record IsInPlaceOf (after : S → W → Option S) (a b : Operation W) : Type 0 where
+    pub same : (s : S) → after s a.what ≡ after s b.what
+    pub due : is_due b ≡ true → is_due a ≡ true
+    pub sooner : (end : ℕ) → b.ends ≡ Some end → (at : ℕ) × (a.ends ≡ Some at) × (at ≤ end)
+
+  abbrev pub MayStandFor : (S → W → Option S) → Option (Operation W) → Option (Operation W) → Type 0
+  MayStandFor after (Some a) (Some b) = IsInPlaceOf after a b
+  MayStandFor after (Some a) None = ⊥
+  MayStandFor after None b = ⊥
+
+  -- the operation at place r is placed for that at place q: it is the same one, or it is under way, isn't placed, and
+  -- may be in its place
+  abbrev pub StandsFor : (S → W → Option S) → List (Operation W) → List ℕ → List ℕ → ℕ → ℕ → Type 0
+  StandsFor after log under_way placed r q =
+      (r ≡ q) ⊎ ((is_in r under_way ≡ true) × (is_in r placed ≡ false)
+      × MayStandFor after (slice_get log r) (slice_get log q))
+
+  -- what an operation leads to is held, or what another one leads to that is placed for it
+  abbrev pub IsPlacedFor : (S → W → Option S) → List (Operation W) → List ℕ → ℕ → List ℕ → ℕ → S →
+      List (Configuration S) → List (Configuration S) → Type 0
+  IsPlacedFor after log under_way ending placed q t waiting kept =
+      (r : ℕ) × StandsFor after log under_way placed r q × IsPutIn (nat_eq r ending) r t placed waiting kept
+
   -- all that a configuration leads to is held, but for what is idle
   pub record AreTried (after : S → W → Option S) (log : List (Operation W)) (under_way : List ℕ) (ending : ℕ) (s : S)
       (placed : List ℕ)
       (waiting kept : List (Configuration S)) : Type 0 where
     pub left_out : may_be_left_out log ending ≡ true → IsHeld kept s placed
     pub tried : (j q : ℕ) (t : S) → slice_get under_way j ≡ Some q → step_from after log s placed q ≡ Some t →
-        IsIdle after (slice_get log q) ⊎ IsPutIn (nat_eq q ending) q t placed waiting kept
+        IsIdle after (slice_get log q) ⊎ IsPlacedFor after log under_way ending placed q t waiting kept
 
   -- of a configuration all that it leads to is held, or what such an operation leads to that can be placed
   pub data IsHandled (after : S → W → Option S) (log : List (Operation W)) (under_way : List ℕ) (ending : ℕ) (s : S)
@@ -138,7 +163,7 @@ module _ {S W : Type 0} where
     pub grown_kept : IsGrown kept kept'
     pub left_out : may_be_left_out log ending ≡ true → IsHeld kept' s placed
     pub tried : (j q : ℕ) (t : S) → j < n → slice_get under_way j ≡ Some q → step_from after log s placed q ≡ Some t →
-        IsIdle after (slice_get log q) ⊎ IsPutIn (nat_eq q ending) q t placed waiting' kept'
+        IsIdle after (slice_get log q) ⊎ IsPlacedFor after log under_way ending placed q t waiting' kept'
     pub sound : (opening : S) (ended : List ℕ) (end : ℕ) → IsNextEnd log ended ending end →
         AreUnderWay log under_way ended end →
         IsReachable after opening log ended s placed → is_in ending placed ≡ false →

@@ -1,8 +1,8 @@
 -- It may be left out; then one more is tried, and another.
-use Rattle.std.proofs.Common.{◌≡◌, ℕ, ◌+◌, ◌≤◌, get_or, length, slice_get, Some, arith, subst, sym}
+use Rattle.std.proofs.Common.{◌≡◌, ℕ, ◌+◌, ◌≤◌, List, get_or, length, slice_get, Some, arith, subst, sym}
 use Rattle.std.proofs.lemmas.Option.{slice_get-get_or}
 use Rattle.object_sweep.specs.declared.ending.Ending.{Ending}
-use Rattle.object_sweep.specs.inner.Steps.{IsExplored}
+use Rattle.object_sweep.specs.inner.Steps.{IsExplored, StandsFor}
 use Rattle.object_sweep.proofs.Adding.{explored_idle, explored_more, explored_none}
 use Rattle.object_sweep.proofs.ending.explore.Goals as goal
 use Rattle.object_sweep.proofs.ending.explore.Goals.{then-not-is_idle+in_ok-try_place, else-not-is_idle}
@@ -17,8 +17,10 @@ pub loop-place-preserved : goal.loop-place-preserved
 loop-place-preserved g c = elim c.if-not-is_idle.branch [
   | then-not-is_idle+in_ok-try_place w ↦
       subst P (sym w.sets-is) (explored_more g.O.Object.after c.args.log.now c.args.under_way.now c.args.ending c.args.from.now.state
-      c.args.from.now.placed.items c.loop-place.place-index _ at c.args.sets.now.waiting.items c.args.sets.now.kept.items
-      c.loop-place.sets.waiting.items c.loop-place.sets.kept.items w.try_place.new.sets.waiting.items w.try_place.new.sets.kept.items
+      c.args.from.now.placed.items c.loop-place.place-index _ w.first_for-first.result at
+      (stands w.as_slice.result.now w.as_slice.ensures.value w.first_for-first.result w.first_for-first.ensures)
+      c.args.sets.now.waiting.items c.args.sets.now.kept.items c.loop-place.sets.waiting.items c.loop-place.sets.kept.items
+      w.try_place.new.sets.waiting.items w.try_place.new.sets.kept.items
       c.loop-place.invariant w.in_ok-try_place.ensures)
   | else-not-is_idle w ↦
       subst P (sym w.sets-is) (explored_idle g.O.Object.after c.args.log.now c.args.under_way.now c.args.ending c.args.from.now.state
@@ -29,6 +31,14 @@ loop-place-preserved g c = elim c.if-not-is_idle.branch [
   where
     at : slice_get c.args.under_way.now c.loop-place.place-index ≡ Some (get_or c.args.under_way.now c.loop-place.place-index 0)
     at = slice_get-get_or c.args.under_way.now c.loop-place.place-index 0 c.loop-place-test.true
+
+    stands : (placed : List ℕ) → placed ≡ c.args.from.now.placed.items → (r : ℕ) →
+        StandsFor g.O.Object.after c.args.log.now c.args.under_way.now placed r
+        (get_or c.args.under_way.now c.loop-place.place-index 0) → StandsFor g.O.Object.after c.args.log.now c.args.under_way.now
+        c.args.from.now.placed.items r (get_or c.args.under_way.now c.loop-place.place-index 0)
+    stands placed same r h =
+        let Q : List ℕ → Type 0 = λ z. StandsFor g.O.Object.after c.args.log.now c.args.under_way.now z r
+        (get_or c.args.under_way.now c.loop-place.place-index 0) in subst Q same h
 
     P : Ending g.row.O.Denot → Type 0
     P z = IsExplored g.O.Object.after c.args.log.now c.args.under_way.now c.args.ending c.args.from.now.state
