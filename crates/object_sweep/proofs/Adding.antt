@@ -9,7 +9,7 @@ use Rattle.object_sweep.specs.inner.Steps.{AnyCanFinish, AreExplored, AreSound, 
 use Rattle.object_sweep.specs.inner.Steps.{IsCopyAt, IsExplored, IsGrown, IsHandled, IsIdle, IsLeftOut, IsMadeOf, IsPassed, IsPureNext}
 use Rattle.object_sweep.specs.inner.Steps.{IsPut, IsPutIn, IsSorted, IsSureAndPure, IsTried, IsVisited, made_by}
 use Rattle.object_sweep.specs.inner.Steps.IsHandled.{Tries, Places as PlacesPure}
-use Rattle.object_sweep.specs.inner.Steps.{IsPlacedFor, may_be_left_out, maybe_of, MayStandFor, StandsFor, step_from}
+use Rattle.object_sweep.specs.inner.Steps.{IsPlacedFor, may_be_left_out, maybe_of, MayStandFor, StandsInFor, step_from}
 use Rattle.object_sweep.specs.Reached.{AreApart, AreReachable, AreTooMany, is_closed, is_in, IsHeld, IsNextEnd, IsReachable, IsSameAs}
 use Rattle.object_sweep.specs.Reached.{is_within}
 use Rattle.object_sweep.specs.Reached.{without}
@@ -283,20 +283,20 @@ module _ {S W : Type 0} (after : S → W → Option S) (log : List (Operation W)
   made_for s t (Some a) None h e = absurd h
   made_for s t None n h e = absurd h
 
-  stepped_for : (under_way : List ℕ) (s : S) (placed : List ℕ) (r q : ℕ) (t : S) → StandsFor after log under_way placed r q →
+  stepped_for : (under_way : List ℕ) (s : S) (placed : List ℕ) (r q : ℕ) (t : S) → StandsInFor after log under_way placed r q →
       step_from after log s placed q ≡ Some t → step_from after log s placed r ≡ Some t
   stepped_for under_way s placed r q t (inl same) e = ap (step_from after log s placed) same ∙ e
   stepped_for under_way s placed r q t (inr for) e =
       let p = step_parts after s log s placed q t e in
       ap (λ b. cond b None (made_by after s (slice_get log r))) for.1 ∙ made_for s t (slice_get log r) (slice_get log q) for.2 p.1
 
-  place_for : (under_way placed : List ℕ) (n r q : ℕ) → slice_get under_way n ≡ Some q → StandsFor after log under_way placed r q →
+  place_for : (under_way placed : List ℕ) (n r q : ℕ) → slice_get under_way n ≡ Some q → StandsInFor after log under_way placed r q →
       (m : ℕ) × (slice_get under_way m ≡ Some r)
   place_for under_way placed n r q at (inl same) = (n, at ∙ ap Some (sym same))
   place_for under_way placed n r q at (inr for) = at_is_in under_way r for.0
 
   pub explored_more : (under_way : List ℕ) (ending : ℕ) (s : S) (placed : List ℕ) (n q r : ℕ) → slice_get under_way n ≡ Some q →
-      StandsFor after log under_way placed r q → (waiting kept waiting' kept' waiting'' kept'' : List (Configuration S)) →
+      StandsInFor after log under_way placed r q → (waiting kept waiting' kept' waiting'' kept'' : List (Configuration S)) →
       IsExplored after log under_way ending s placed n waiting kept waiting' kept' →
       IsTried (step_from after log s placed r) ending placed r waiting' kept' waiting'' kept'' →
       IsExplored after log under_way ending s placed (n + 1) waiting kept waiting'' kept''

@@ -8,7 +8,7 @@ ghost use Rattle.object_sweep.specs.inner.Ends.{AreAlwaysTooMany};
 ghost use Rattle.object_sweep.specs.inner.Steps.{AreStarted, IsClosed, IsCopyAt, IsExplored, IsIdle, IsLeftOut};
 ghost use Rattle.object_sweep.specs.inner.Steps.{IsPassed, IsPureNext, IsPut, IsSorted, IsSureAndPure};
 ghost use Rattle.object_sweep.specs.inner.Steps.{IsInPlaceOf, IsTried, IsVisited, may_be_left_out};
-ghost use Rattle.object_sweep.specs.inner.Steps.{MayStandFor, StandsFor, step_from};
+ghost use Rattle.object_sweep.specs.inner.Steps.{MayStandFor, StandsInFor, step_from};
 
 use crate::configuration::{Configuration, add};
 use crate::places::{is_in, with, without};
@@ -177,7 +177,7 @@ fn first_for<O: Object>(
     placed: &[usize],
     place: usize,
 ) -> usize
-    ensures { StandsFor O.after log.now under_way.now placed.now result place }
+    ensures { StandsInFor O.after log.now under_way.now placed.now result place }
 {
     let mut first = place;
     for other in under_way {

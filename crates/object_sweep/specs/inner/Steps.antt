@@ -126,8 +126,8 @@ module _ {S W : Type 0} where
 
   -- the operation at place r is placed for that at place q: it is the same one, or it is under way, isn't placed, and
   -- may be in its place
-  abbrev pub StandsFor : (S → W → Option S) → List (Operation W) → List ℕ → List ℕ → ℕ → ℕ → Type 0
-  StandsFor after log under_way placed r q =
+  abbrev pub StandsInFor : (S → W → Option S) → List (Operation W) → List ℕ → List ℕ → ℕ → ℕ → Type 0
+  StandsInFor after log under_way placed r q =
       (r ≡ q) ⊎ ((is_in r under_way ≡ true) × (is_in r placed ≡ false)
       × MayStandFor after (slice_get log r) (slice_get log q))
 
@@ -135,7 +135,7 @@ module _ {S W : Type 0} where
   abbrev pub IsPlacedFor : (S → W → Option S) → List (Operation W) → List ℕ → ℕ → List ℕ → ℕ → S →
       List (Configuration S) → List (Configuration S) → Type 0
   IsPlacedFor after log under_way ending placed q t waiting kept =
-      (r : ℕ) × StandsFor after log under_way placed r q × IsPutIn (nat_eq r ending) r t placed waiting kept
+      (r : ℕ) × StandsInFor after log under_way placed r q × IsPutIn (nat_eq r ending) r t placed waiting kept
 
   -- all that a configuration leads to is held, but for what is idle
   pub record AreTried (after : S → W → Option S) (log : List (Operation W)) (under_way : List ℕ) (ending : ℕ) (s : S)

@@ -2,7 +2,7 @@
 use Rattle.std.proofs.Common.{◌≡◌, ℕ, ◌+◌, ◌≤◌, List, get_or, length, slice_get, Some, arith, subst, sym}
 use Rattle.std.proofs.lemmas.Option.{slice_get-get_or}
 use Rattle.object_sweep.specs.declared.ending.Ending.{Ending}
-use Rattle.object_sweep.specs.inner.Steps.{IsExplored, StandsFor}
+use Rattle.object_sweep.specs.inner.Steps.{IsExplored, StandsInFor}
 use Rattle.object_sweep.proofs.Adding.{explored_idle, explored_more, explored_none}
 use Rattle.object_sweep.proofs.ending.explore.Goals as goal
 use Rattle.object_sweep.proofs.ending.explore.Goals.{then-not-is_idle+in_ok-try_place, else-not-is_idle}
@@ -33,11 +33,11 @@ loop-place-preserved g c = elim c.if-not-is_idle.branch [
     at = slice_get-get_or c.args.under_way.now c.loop-place.place-index 0 c.loop-place-test.true
 
     stands : (placed : List ℕ) → placed ≡ c.args.from.now.placed.items → (r : ℕ) →
-        StandsFor g.O.Object.after c.args.log.now c.args.under_way.now placed r
-        (get_or c.args.under_way.now c.loop-place.place-index 0) → StandsFor g.O.Object.after c.args.log.now c.args.under_way.now
+        StandsInFor g.O.Object.after c.args.log.now c.args.under_way.now placed r
+        (get_or c.args.under_way.now c.loop-place.place-index 0) → StandsInFor g.O.Object.after c.args.log.now c.args.under_way.now
         c.args.from.now.placed.items r (get_or c.args.under_way.now c.loop-place.place-index 0)
     stands placed same r h =
-        let Q : List ℕ → Type 0 = λ z. StandsFor g.O.Object.after c.args.log.now c.args.under_way.now z r
+        let Q : List ℕ → Type 0 = λ z. StandsInFor g.O.Object.after c.args.log.now c.args.under_way.now z r
         (get_or c.args.under_way.now c.loop-place.place-index 0) in subst Q same h
 
     P : Ending g.row.O.Denot → Type 0
