@@ -37,6 +37,8 @@ TOOLS = {
     "tests/docs/stepper.sh": ("wasm-opt", "chromium"),
     "tests/docs/site.sh": ("chromium",),
 }
+# What a tool is there with, or a script does without it.
+WITH = {"jackd": "/usr/include/jack/jack.h"}
 # The scripts that check nothing where one of their tools isn't there.
 OPTIONAL = {"tests/arm.sh"}
 # The scripts that have no checks, and those that are run by hand alone.
@@ -75,8 +77,9 @@ def stated(top):
 
 
 def is_here(tool):
-    """Whether there is such a program, of `unshare` whether it may make a namespace of mounts, and of qemu one with its own formats."""
-    if not shutil.which(tool):
+    """Whether there is such a program, with what it needs; of `unshare` whether it may make a namespace of mounts, and of qemu one with its
+    own formats."""
+    if not shutil.which(tool) or not os.path.exists(WITH.get(tool, "/")):
         return False
     as_root = [] if os.getuid() == 0 else ["--map-root-user"]
     emulate = Path(__file__).resolve().parents[1] / "library/emulate.py"

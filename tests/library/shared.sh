@@ -188,7 +188,7 @@ try_rust() {
 
 # A client of JACK, where its server is, over each register and a mutex. (Of a time nothing is asked here: bench/README.md has what was measured.)
 try_jack() {
-    command -v jackd >/dev/null 2>&1 || return 0
+    command -v jackd >/dev/null 2>&1 && [ -e /usr/include/jack/jack.h ] || return 0
     if ! builds "$headers" examples/c/jack.c gcc -std=gnu11 $strict -Wl,--no-as-needed -ljack; then
         fail "examples/c/jack.c" "it wasn't built: $(head -n 3 "$room/built" | tr '\n' ' ')"
         return
