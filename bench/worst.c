@@ -1,6 +1,7 @@
 /* Calls of a register or a board for worst.py, which sees each instruction and each access between two marks: a store to `begins`, by the kind
  * of the call, and one to `ends`. Of a register each call is made after each sequence of fewer than DEPTH calls, from a new one on. Of a board
- * the states before a call are drawn, and beside them there is that each other place has written since.
+ * each is made by each place right after a write of each other one, in rising order, so that it has news from each and its stamp rises each
+ * time; before that stand calls that are drawn. A write is refused where the limit or the last number is used up.
  * -DBYTES=24 [-DDEPTH=5] [-DTRIPLE] [-DPLACES=4] */
 #include <nidzaru.h>
 
@@ -12,16 +13,17 @@
 #endif
 struct record { uint64_t words[BYTES / 8]; };
 
-enum { WRITE, READ, LOOK, HOLD, LOAN, KINDS };
+enum { WRITE, READ, LOOK, HOLD, LOAN, SINCE, NEWS, REFUSED, KINDS };
 volatile uint64_t begins[8 * KINDS], ends;
-#define MARKED(kind, call)              \
-    do {                                \
-        begins[8 * (kind)] = 1;         \
-        const int status_ = (call);     \
-        ends = 1;                       \
-        if (status_) return 1;          \
+#define MARKED(kind, call, wanted)           \
+    do {                                     \
+        begins[8 * (kind)] = 1;              \
+        const int status_ = (call);          \
+        ends = 1;                            \
+        if (status_ != (wanted)) return 1;   \
     } while (0)
 
+/* (none of what a call gives lies on the stack, which is the call's own here) */
 static _Alignas(64) struct record given, got;
 
 #if PLACES
@@ -39,23 +41,62 @@ NIDZARU_BOARD(cells, struct record);
 static cells_place places[PLACES];
 static nidzaru_stamp stamp;
 
-static int call(int writes, size_t k) {
-    if (writes) MARKED(WRITE, cells_write(&places[k], &given, &stamp));
-    else MARKED(READ, cells_read(&places[k], &got, &stamp));
+enum { DRAWN = 6 * PLACES, WAYS = 6 };
+
+/* A call of the place, in one of the ways: with a stamp that the answer has, or with one that it hasn't. */
+static int call(uint64_t way, size_t k) {
+    stamp = (nidzaru_stamp){way % 2 ? UINT64_MAX : 0, 0};
+    switch (way) {
+    case 0: MARKED(WRITE, cells_write(&places[k], &given, &stamp), NIDZARU_DONE); break;
+    case 1: MARKED(READ, cells_read(&places[k], &got, &stamp), NIDZARU_DONE); break;
+    case 2: MARKED(SINCE, cells_read_since(&places[k], stamp, &got, &stamp), NIDZARU_DONE); break;
+    case 3: MARKED(SINCE, cells_read_since(&places[k], stamp, &got, &stamp), NIDZARU_OLDER); break;
+    case 4: MARKED(NEWS, cells_news(&places[k], &got, &stamp), stamp.tag ? NIDZARU_DONE : NIDZARU_NO_NEWS); break;
+    default: MARKED(NEWS, cells_news(&places[k], &got, &stamp), NIDZARU_NO_NEWS); break;
+    }
     return 0;
 }
 
+/* A write of each place but this one. */
+static int write_others(size_t me) {
+    for (size_t k = 0; k < PLACES; k++)
+        if (k != me && call(0, k)) return 1;
+    return 0;
+}
+
+static void end_all(void) {
+    for (size_t k = 0; k < PLACES; k++) cells_end(&places[k]);
+}
+
+/* Each place's calls on a board with all tags. */
 static int calls(void) {
     if (cells_make(&given, places, PLACES)) return 1;
-    for (size_t turn = 0; turn < 6 * PLACES; turn++)
-        if (call((int)below(2), below(PLACES))) return 1;
+    for (size_t turn = 0; turn < DRAWN; turn++)
+        if (call(below(WAYS), below(PLACES))) return 1;
     for (size_t me = 0; me < PLACES; me++)
-        for (int writes = 0; writes < 2; writes++) {
-            for (size_t k = 0; k < PLACES; k++)
-                if (k != me && call(1, k)) return 1;
-            if (call(writes, me)) return 1;
-        }
-    for (size_t k = 0; k < PLACES; k++) cells_end(&places[k]);
+        for (uint64_t way = 0; way < WAYS; way++)
+            if (write_others(me) || call(way, me)) return 1;
+    end_all();
+    return 0;
+}
+
+/* A write of this place where so many writes and one of each other place have used up the tags. */
+static int refuse(size_t me, uint64_t writes) {
+    if (cells_make_limited(&given, writes + PLACES - 1, places, PLACES)) return 1;
+    for (uint64_t n = 0; n < writes; n++)
+        if (call(0, below(PLACES)) || call(1, below(PLACES))) return 1;
+    if (write_others(me)) return 1;
+    MARKED(REFUSED, cells_write(&places[me], &given, &stamp), NIDZARU_REFUSED);
+    end_all();
+    return 0;
+}
+
+static int all_calls(void) {
+    for (uint64_t n = 0; n < 4; n++) {
+        if (calls()) return 1;
+        for (size_t me = 0; me < PLACES; me++)
+            if (refuse(me, n)) return 1;
+    }
     return 0;
 }
 #else
@@ -63,29 +104,32 @@ static int calls(void) {
 NIDZARU_TRIPLE_REGISTER(cells, struct record);
 NIDZARU_HOLD(cells);
 NIDZARU_LOAN(cells);
+/* Where a writing side has its number, in words. */
+enum { NUMBER = 2 };
 #else
 NIDZARU_REGISTER(cells, struct record);
+enum { NUMBER = 4 };
 #endif
 static cells_writer writer;
 static cells_reader reader;
+static uint64_t number;
 
-enum { CALLS = cells_is_triple ? KINDS : HOLD };
+enum { CALLS = cells_is_triple ? LOAN + 1 : HOLD };
 
-static int call(int kind) {
-    uint64_t number;
+static int call(long kind) {
     switch (kind) {
-    case WRITE: MARKED(WRITE, cells_write(&writer, &given)); break;
-    case READ: MARKED(READ, cells_read(&reader, &got, &number)); break;
-    case LOOK: MARKED(LOOK, cells_look(&reader, &number)); break;
+    case WRITE: MARKED(WRITE, cells_write(&writer, &given), NIDZARU_DONE); break;
+    case READ: MARKED(READ, cells_read(&reader, &got, &number), NIDZARU_DONE); break;
+    case LOOK: MARKED(LOOK, cells_look(&reader, &number), NIDZARU_DONE); break;
 #ifdef TRIPLE
     case HOLD: {
-        const struct record *at;
-        MARKED(HOLD, cells_hold(&reader, &at, &number));
+        static const struct record *at;
+        MARKED(HOLD, cells_hold(&reader, &at, &number), NIDZARU_DONE);
         break;
     }
     default: {
-        struct record *at;
-        MARKED(LOAN, cells_loan(&writer, &at) || cells_publish(&writer));
+        static struct record *at;
+        MARKED(LOAN, cells_loan(&writer, &at) || cells_publish(&writer), 0);
         break;
     }
 #endif
@@ -93,25 +137,27 @@ static int call(int kind) {
     return 0;
 }
 
-/* The calls whose kinds are the digits of a number. */
+/* The calls whose kinds are the digits of a number, and a write where all numbers are used. */
 static int calls(long sequence) {
     if (cells_make(&given, &writer, &reader)) return 1;
     for (int turn = 0; turn < DEPTH; turn++, sequence /= CALLS)
-        if (call((int)(sequence % CALLS))) return 1;
+        if (call(sequence % CALLS)) return 1;
+    ((uint64_t *)writer.handle.side.at)[NUMBER] = UINT64_MAX;
+    MARKED(REFUSED, cells_write(&writer, &given), NIDZARU_REFUSED);
+#ifdef TRIPLE
+    MARKED(REFUSED, cells_publish(&writer), NIDZARU_REFUSED);
+#endif
     cells_end_writer(&writer), cells_end_reader(&reader);
     return 0;
 }
-#endif
 
-int main(void) {
-#if PLACES
-    for (int n = 0; n < 4; n++)
-        if (calls()) return 1;
-#else
+static int all_calls(void) {
     long sequences = 1;
     for (int turn = 0; turn < DEPTH; turn++) sequences *= CALLS;
     for (long n = 0; n < sequences; n++)
         if (calls(n)) return 1;
-#endif
     return 0;
 }
+#endif
+
+int main(void) { return all_calls(); }
