@@ -29,8 +29,9 @@ FAMILIES = {
     "triple_board": {"words": "A board over triple buffers", "prefix": "triple_", "name": "triple", "type": "Triple"},
 }
 
-HEAD = """//! The exports: for each cell and size a make, a write, a read, a look and an end of either side, and of a triple buffer a hold, a
-//! loan and what publishes it; for each family and size of a board a make, a write, two reads and an end; and the library's version.
+HEAD = """//! The exports: for each cell and size a make, a write, a read, a look and an end of either side, and of a triple
+//! buffer a hold, a loan and what publishes it; for each family and size of a board a make, a write, two reads and an
+//! end; and the library's version.
 """
 
 TEXT = """//! {words} with records of {bytes} bytes.
@@ -51,15 +52,17 @@ pub extern "C" fn nidzaru_{prefix}{size}_make(
 ) -> u32
     ensures {{ IsMake ({writes}, {reads}) (λ p. record {{ it = p }}) (λ g. record {{ it = g }}) IsMade
         (holding writer.old.live writer.old.loose.side) (holding reader.old.live reader.old.loose.side)
-        (holding writer.new.live writer.new.loose.side) (holding reader.new.live reader.new.loose.side) first.now result }}
+        (holding writer.new.live writer.new.loose.side) (holding reader.new.live reader.new.loose.side)
+        first.now result }}
 {{
     make::<{type}Writer{size}, {type}Reader{size}, {name}_writer_{size}::Handle, {name}_reader_{size}::Handle, Record{size}, {type}Writer<Record{size}>, {type}Reader<Record{size}>>(alloc, first, writer, reader)
 }}
 
 #[unsafe(no_mangle)]
 pub extern "C" fn nidzaru_{prefix}{size}_write(writer: &mut {name}_writer_{size}::Handle, item: &Record{size}) -> u32
-    ensures {{ IsWrite {writes} (λ p. record {{ it = p }}) (λ p. p.number) HasWritten (holding writer.old.live writer.old.loose.side)
-        (holding writer.new.live writer.new.loose.side) item.now result }}
+    ensures {{ IsWrite {writes} (λ p. record {{ it = p }}) (λ p. p.number) HasWritten
+        (holding writer.old.live writer.old.loose.side) (holding writer.new.live writer.new.loose.side)
+        item.now result }}
 {{
     write::<{type}Writer{size}, {name}_writer_{size}::Loose, Record{size}, {type}Writer<Record{size}>>({writes}, &mut writer.live, &mut writer.loose, item)
 }}
@@ -86,14 +89,16 @@ pub extern "C" fn nidzaru_{prefix}{size}_look(reader: &mut {name}_reader_{size}:
 {hold}
 #[unsafe(no_mangle)]
 pub extern "C" fn nidzaru_{prefix}{size}_end_writer(alloc: Global, writer: &mut {name}_writer_{size}::Handle) -> u32
-    ensures {{ IsEnd {writes} (holding writer.old.live writer.old.loose.side) (holding writer.new.live writer.new.loose.side) result }}
+    ensures {{ IsEnd {writes} (holding writer.old.live writer.old.loose.side)
+        (holding writer.new.live writer.new.loose.side) result }}
 {{
     end::<{type}Writer{size}, {name}_writer_{size}::Handle>(alloc, writer)
 }}
 
 #[unsafe(no_mangle)]
 pub extern "C" fn nidzaru_{prefix}{size}_end_reader(alloc: Global, reader: &mut {name}_reader_{size}::Handle) -> u32
-    ensures {{ IsEnd {reads} (holding reader.old.live reader.old.loose.side) (holding reader.new.live reader.new.loose.side) result }}
+    ensures {{ IsEnd {reads} (holding reader.old.live reader.old.loose.side)
+        (holding reader.new.live reader.new.loose.side) result }}
 {{
     end::<{type}Reader{size}, {name}_reader_{size}::Handle>(alloc, reader)
 }}
@@ -102,7 +107,8 @@ pub extern "C" fn nidzaru_{prefix}{size}_end_reader(alloc: Global, reader: &mut 
 HOLD_TEXT = """
 #[unsafe(no_mangle)]
 pub extern "C" fn nidzaru_{prefix}{size}_hold<'a>(reader: &'a mut {name}_reader_{size}::Handle, at: &mut &'a Record{size}) -> u32
-    ensures {{ IsHold {reads} (λ g. record {{ it = g }}) at_hand (holding reader.old.live reader.old.loose.side) at.old.now at.new.now result }}
+    ensures {{ IsHold {reads} (λ g. record {{ it = g }}) at_hand
+        (holding reader.old.live reader.old.loose.side) at.old.now at.new.now result }}
 {{
     let live = reader.live;
     hold::<{type}Reader{size}, {name}_reader_{size}::Loose, Record{size}>(&mut reader.loose, {reads}, live, at).status
@@ -110,7 +116,8 @@ pub extern "C" fn nidzaru_{prefix}{size}_hold<'a>(reader: &'a mut {name}_reader_
 
 #[unsafe(no_mangle)]
 pub extern "C" fn nidzaru_{prefix}{size}_loan<'a>(writer: &'a mut {name}_writer_{size}::Handle, at: &mut &'a mut Record{size}) -> u32
-    ensures {{ IsHold {writes} (λ p. record {{ it = p }}) in_slot (holding writer.old.live writer.old.loose.side) at.old.now at.new.now result }}
+    ensures {{ IsHold {writes} (λ p. record {{ it = p }}) in_slot
+        (holding writer.old.live writer.old.loose.side) at.old.now at.new.now result }}
 {{
     let live = writer.live;
     match slot::<{type}Writer{size}, {name}_writer_{size}::Loose, Record{size}>(&mut writer.loose, {writes}, live) {{
@@ -124,8 +131,8 @@ pub extern "C" fn nidzaru_{prefix}{size}_loan<'a>(writer: &'a mut {name}_writer_
 
 #[unsafe(no_mangle)]
 pub extern "C" fn nidzaru_{prefix}{size}_publish(writer: &mut {name}_writer_{size}::Handle) -> u32
-    ensures {{ IsPublish {writes} (λ p. record {{ it = p }}) (λ p. p.number) HasPublished (holding writer.old.live writer.old.loose.side)
-        (holding writer.new.live writer.new.loose.side) result }}
+    ensures {{ IsPublish {writes} (λ p. record {{ it = p }}) (λ p. p.number) HasPublished
+        (holding writer.old.live writer.old.loose.side) (holding writer.new.live writer.new.loose.side) result }}
 {{
     publish::<{type}Writer{size}, {name}_writer_{size}::Loose, Record{size}>({writes}, &mut writer.live, &mut writer.loose)
 }}
@@ -149,8 +156,8 @@ pub extern "C" fn nidzaru_{prefix}board_{size}_make(
     limit: u64,
     places: &mut [{name}_place_{size}::Handle],
 ) -> u32
-    ensures {{ IsBoardMake (λ h. h.live) (λ h. h.loose.side) {code} (λ s. record {{ it = s }}) ⟦<{type}Seat{size} as Posts<Record{size}>>⟧.is_made
-        limit places.old places.new first.now result }}
+    ensures {{ IsBoardMake (λ h. h.live) (λ h. h.loose.side) {code} (λ s. record {{ it = s }})
+        ⟦<{type}Seat{size} as Posts<Record{size}>>⟧.is_made limit places.old places.new first.now result }}
 {{
     make_places::<{type}Place{size}, {name}_place_{size}::Handle, Record{size}, {type}Seat{size}>(alloc, first, limit, places)
 }}
@@ -161,8 +168,10 @@ pub extern "C" fn nidzaru_{prefix}board_{size}_write(
     item: &Record{size},
     stamp: &mut Mark,
 ) -> u32
-    ensures {{ IsBoardWrite {code} (λ s. record {{ it = s }}) ⟦<{type}Seat{size} as Posts<Record{size}>>⟧.has_posted ⟦<{type}Seat{size} as Posts<Record{size}>>⟧.is_refused
-        (holding place.old.live place.old.loose.side) (holding place.new.live place.new.loose.side) item.now stamp.old stamp.new result }}
+    ensures {{ IsBoardWrite {code} (λ s. record {{ it = s }}) ⟦<{type}Seat{size} as Posts<Record{size}>>⟧.has_posted
+        ⟦<{type}Seat{size} as Posts<Record{size}>>⟧.is_refused
+        (holding place.old.live place.old.loose.side) (holding place.new.live place.new.loose.side)
+        item.now stamp.old stamp.new result }}
 {{
     write_place::<{type}Place{size}, {name}_place_{size}::Loose, Record{size}, {type}Seat{size}>({code}, &mut place.live, &mut place.loose, item, stamp)
 }}
@@ -174,7 +183,8 @@ pub extern "C" fn nidzaru_{prefix}board_{size}_read(
     stamp: &mut Mark,
 ) -> u32
     ensures {{ IsBoardRead {code} (λ s. record {{ it = s }}) ⟦<{type}Seat{size} as Posts<Record{size}>>⟧.has_seen
-        (holding place.old.live place.old.loose.side) (holding place.new.live place.new.loose.side) item.old item.new stamp.old stamp.new result }}
+        (holding place.old.live place.old.loose.side) (holding place.new.live place.new.loose.side)
+        item.old item.new stamp.old stamp.new result }}
 {{
     read_place::<{type}Place{size}, {name}_place_{size}::Loose, Record{size}, {type}Seat{size}>({code}, &mut place.live, &mut place.loose, item, stamp)
 }}
@@ -187,14 +197,16 @@ pub extern "C" fn nidzaru_{prefix}board_{size}_read_since(
     stamp: &mut Mark,
 ) -> u32
     ensures {{ IsBoardReadSince {code} (λ s. record {{ it = s }}) ⟦<{type}Seat{size} as Posts<Record{size}>>⟧.has_seen
-        (holding place.old.live place.old.loose.side) (holding place.new.live place.new.loose.side) least.now item.old item.new stamp.old stamp.new result }}
+        (holding place.old.live place.old.loose.side) (holding place.new.live place.new.loose.side)
+        least.now item.old item.new stamp.old stamp.new result }}
 {{
     read_place_since::<{type}Place{size}, {name}_place_{size}::Loose, Record{size}, {type}Seat{size}>({code}, &mut place.live, &mut place.loose, least, item, stamp)
 }}
 
 #[unsafe(no_mangle)]
 pub extern "C" fn nidzaru_{prefix}board_{size}_end(alloc: Global, place: &mut {name}_place_{size}::Handle) -> u32
-    ensures {{ IsEnd {code} (holding place.old.live place.old.loose.side) (holding place.new.live place.new.loose.side) result }}
+    ensures {{ IsEnd {code} (holding place.old.live place.old.loose.side)
+        (holding place.new.live place.new.loose.side) result }}
 {{
     end::<{type}Place{size}, {name}_place_{size}::Handle>(alloc, place)
 }}

@@ -1,5 +1,5 @@
--- A call of a process, access by access: so many reads, one of each other process, rising, and then as many writes, or none (this
--- project's own).
+-- A call of a process, access by access: so many reads, one of each other process, rising, and then as many writes,
+-- or none (this project's own).
 use Rattle.std.specs.Prelude.{◌≡◌, ℕ, ◌+◌, ◌-◌, ◌*◌, ◌<◌, List, [], ◌∷◌, ◌++◌, length, slice_get, Some, true, false}
 use Rattle.matrix_core.specs.declared.stamp.Stamped.{Stamped}
 use Rattle.matrix_core.specs.Choices.{ChoosesByKind}
@@ -18,17 +18,20 @@ pub record IsInterval (width : ℕ) (steps : List ℕ) (access : ℕ) (begins en
 
 module _ {V : Type 0} where
   -- one answer more, and one record more
-  pub record ReadsOnce (width : ℕ) (steps : List ℕ) (access : ℕ) (old new : Answered V) (answer : Stamped V) : Type 0 where
+  pub record ReadsOnce (width : ℕ) (steps : List ℕ) (access : ℕ) (old new : Answered V)
+      (answer : Stamped V) : Type 0 where
     pub interval : IsInterval width steps access old.begins old.ends new.begins new.ends
     pub items : new.items ≡ old.items ++ answer ∷ []
 
-  pub record WritesOnce (width : ℕ) (steps : List ℕ) (access : ℕ) (old new : Written V) (item : Stamped V) : Type 0 where
+  pub record WritesOnce (width : ℕ) (steps : List ℕ) (access : ℕ) (old new : Written V)
+      (item : Stamped V) : Type 0 where
     pub interval : IsInterval width steps access old.begins old.ends new.begins new.ends
     pub items : new.items ≡ old.items ++ item ∷ []
 
-  -- *One call more*: its steps are the accesses, its answers with the own record what it saw, and what it chose is written to each other
-  -- process, or it is the record that the process had before, and nothing is written
-  pub record MakesCall (width n limit : ℕ) (first : Stamped V) (i : ℕ) (old new : Did V) (call : Called V) : Type 0 where
+  -- *One call more*: its steps are the accesses, its answers with the own record what it saw, and what it chose is
+  -- written to each other process, or it is the record that the process had before, and nothing is written
+  pub record MakesCall (width n limit : ℕ) (first : Stamped V) (i : ℕ) (old new : Did V)
+      (call : Called V) : Type 0 where
     pub calls : new.calls ≡ old.calls ++ call ∷ []
     pub steps : List ℕ
     pub long : length steps ≡ steps_of_call width n call.tells
@@ -45,7 +48,8 @@ module _ {V : Type 0} where
     pub silent : call.tells ≡ false → call.chosen ≡ own_before first old.calls (length old.calls)
     pub sees : call.seen ≡ greatest (own_before first old.calls (length old.calls)) answers
     pub chooses : (place : ℕ) →
-        ChoosesByKind limit (record { place = place; who = i; kind = call.kind; stamp = call.chosen.stamp; item = call.chosen.item })
+        ChoosesByKind limit
+        (record { place = place; who = i; kind = call.kind; stamp = call.chosen.stamp; item = call.chosen.item })
         call.kind call.seen.stamp call.seen.item
 
   -- a process that has made no call

@@ -1,7 +1,8 @@
--- A run of a board whose processes make their steps in one time: what each process did, as lists. Each call reads the register of
--- each other process for it, rising, and chooses; and then it tells what it chose, to the register of each other process, rising, or it
--- doesn't, where it chose the record that its process had before. Each register is regular by its intervals (L. Lamport, On Interprocess
--- Communication, Parts I and II, Distributed Computing 1, 1986); the rules of the matrix are this project's own.
+-- A run of a board whose processes make their steps in one time: what each process did, as lists. Each call reads the
+-- register of each other process for it, rising, and chooses; and then it tells what it chose, to the register of each
+-- other process, rising, or it doesn't, where it chose the record that its process had before. Each register is regular
+-- by its intervals (L. Lamport, On Interprocess Communication, Parts I and II, Distributed Computing 1, 1986); the
+-- rules of the matrix are this project's own.
 use Rattle.std.specs.Prelude.{◌≡◌, ◌≢◌, ℕ, ◌+◌, ◌-◌, ◌*◌, ◌<◌, ◌≤◌, List, [], ◌∷◌, length, slice_get, Some, zero, suc}
 use Rattle.std.specs.Prelude.{Bool, true, false, if◌then◌else◌}
 use Rattle.history_core.specs.declared.history.Kind.{Kind}
@@ -16,8 +17,8 @@ use Rattle.history_core.specs.Registers.{intervals, IsRegular}
 abbrev pub steps_of_call : ℕ → ℕ → Bool → ℕ
 steps_of_call width n tells = (n - 1) * width + (if tells then (n - 1) * width else 0)
 
--- a call that has ended: the times of its first and its last step, the greatest record that it saw, the record that it chose, and
--- whether it told it
+-- a call that has ended: the times of its first and its last step, the greatest record that it saw, the record that it
+-- chose, and whether it told it
 pub record Called (V : Type 0) : Type 0 where
   pub begin : ℕ
   pub end : ℕ
@@ -26,8 +27,8 @@ pub record Called (V : Type 0) : Type 0 where
   pub chosen : Stamped V
   pub tells : Bool
 
--- what a process wrote to another one, and what it read from one: each answer with its number among the records written, 0 that of
--- the opening
+-- what a process wrote to another one, and what it read from one: each answer with its number among the records
+-- written, 0 that of the opening
 pub record Written (V : Type 0) : Type 0 where
   pub items : List (Stamped V)
   pub begins : List ℕ
@@ -82,7 +83,8 @@ module _ {V : Type 0} where
     pub begun : (k : ℕ) (c : Called V) → slice_get did.calls k ≡ Some c → c.tells ≡ true →
         slice_get begins (told did.calls k) ≡ slice_get did.times (steps_before width n did.calls k + access * width)
     pub ended : (k : ℕ) (c : Called V) → slice_get did.calls k ≡ Some c → c.tells ≡ true →
-        slice_get ends (told did.calls k) ≡ slice_get did.times (steps_before width n did.calls k + (access * width + (width - 1)))
+        slice_get ends (told did.calls k)
+        ≡ slice_get did.times (steps_before width n did.calls k + (access * width + (width - 1)))
     pub all : (length begins ≡ told did.calls (length did.calls)) × (length ends ≡ told did.calls (length did.calls))
 
   -- what call k saw: the greatest of its process's own record and of one answer of each other process
@@ -102,21 +104,25 @@ module _ {V : Type 0} where
         slice_get did.times (steps_before width n did.calls k + (steps_of_call width n c.tells - 1)) ≡ Some c.end
     pub reads : (e : ℕ) → e + 1 < n → AreReads width n did e (did.reads (other i e)).begins (did.reads (other i e)).ends
     pub answered : (e : ℕ) → e + 1 < n → length (did.reads (other i e)).items ≡ length did.calls
-    pub writes : (e : ℕ) → e + 1 < n → AreWrites width n did (n - 1 + e) (did.writes (other i e)).begins (did.writes (other i e)).ends
+    pub writes : (e : ℕ) → e + 1 < n →
+        AreWrites width n did (n - 1 + e) (did.writes (other i e)).begins (did.writes (other i e)).ends
     pub written : (e : ℕ) → e + 1 < n → (did.writes (other i e)).items ≡ records did.calls
-    pub silent : (k : ℕ) (c : Called V) → slice_get did.calls k ≡ Some c → c.tells ≡ false → c.chosen ≡ own_before first did.calls k
+    pub silent : (k : ℕ) (c : Called V) → slice_get did.calls k ≡ Some c → c.tells ≡ false →
+        c.chosen ≡ own_before first did.calls k
     pub sees : (k : ℕ) (c : Called V) → slice_get did.calls k ≡ Some c → Sees n first i did k c.seen
     pub chooses : (k place : ℕ) (c : Called V) → slice_get did.calls k ≡ Some c →
-        ChoosesByKind limit (record { place = place; who = i; kind = c.kind; stamp = c.chosen.stamp; item = c.chosen.item })
+        ChoosesByKind limit
+        (record { place = place; who = i; kind = c.kind; stamp = c.chosen.stamp; item = c.chosen.item })
         c.kind c.seen.stamp c.seen.item
 
   -- what one process wrote to another and this one read is a regular register
   abbrev pub IsRegister : Stamped V → Written V → Answered V → Type 0
   IsRegister first writes reads =
-      IsRegular first writes.items (intervals writes.begins writes.ends) reads.items reads.numbers (intervals reads.begins reads.ends)
+      IsRegular first writes.items (intervals writes.begins writes.ends) reads.items reads.numbers
+      (intervals reads.begins reads.ends)
 
-  -- *A run of a board*: the steps of its processes make a schedule, each process made its calls, and each register between two
-  -- processes is regular
+  -- *A run of a board*: the steps of its processes make a schedule, each process made its calls, and each register
+  -- between two processes is regular
   pub record IsBoardRun (width n limit : ℕ) (first : Stamped V) (steps : List ℕ) (did : ℕ → Did V) : Type 0 where
     pub size : (2 ≤ n) × (n ≤ 16) × (0 < width)
     pub within : (step who : ℕ) → slice_get steps step ≡ Some who → who < n

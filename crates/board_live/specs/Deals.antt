@@ -11,8 +11,10 @@ use Rattle.board_live.specs.declared.record.Posted.{Posted}
 use Rattle.board_live.specs.Passes.{HasMade, IsPass}
 
 module _ {V F S T : Type 0} (words : FamilyWords F (Posted V) S T) where
-  -- a board of n processes with this limit, which opened with this record, and the passes of all, with which no call was made yet
-  pub record IsNew (obeys : V → Bool) (n limit : ℕ) (first : Posted V) (board : Board V F S T) (passes : List (Pass V F S T)) : Type 0 where
+  -- a board of n processes with this limit, which opened with this record, and the passes of all,
+  -- with which no call was made yet
+  pub record IsNew (obeys : V → Bool) (n limit : ℕ) (first : Posted V) (board : Board V F S T)
+      (passes : List (Pass V F S T)) : Type 0 where
     pub size : (2 ≤ n) × (n ≤ 16)
     pub count : (board.processes ≡ n) × (length passes ≡ n)
     pub limited : board.limit ≡ limit
@@ -23,7 +25,8 @@ module _ {V F S T : Type 0} (words : FamilyWords F (Posted V) S T) where
 
   -- what `new` answers
   abbrev pub OpensWith : (V → Bool) → ℕ → ℕ → V → Result (Board V F S T × Vec (Pass V F S T) Global) BoardError → Type 0
-  OpensWith obeys n limit opening (Ok r) = IsNew obeys n limit (record { stamp = first_stamp; item = opening }) r.0 r.1.items
+  OpensWith obeys n limit opening (Ok r) =
+      IsNew obeys n limit (record { stamp = first_stamp; item = opening }) r.0 r.1.items
   OpensWith obeys n limit opening (Err Processes) = (2 ≤ n) × (n ≤ 16) → ⊥
   OpensWith obeys n limit opening (Err Limit) = (2 ≤ n) × (n ≤ 16) × (1 ≤ limit × (limit < 18446744073709551615) → ⊥)
   OpensWith obeys n limit opening (Err Opening) =

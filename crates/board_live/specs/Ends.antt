@@ -1,5 +1,5 @@
--- A board that ends: the calls of all its passes together (atomic orders are L. Lamport's, On Interprocess Communication, Parts I and II,
--- Distributed Computing 1, 1986).
+-- A board that ends: the calls of all its passes together (atomic orders are L. Lamport's, On Interprocess
+-- Communication, Parts I and II, Distributed Computing 1, 1986).
 use Rattle.std.specs.Prelude.{◌≡◌, Bool, ℕ, ◌<◌, List, [], ◌∷◌, length, slice_get, Option, Some, None}
 use Rattle.cell_contract.specs.declared.family.Family.{Ghosts as FamilyWords}
 use Rattle.cell_contract.specs.Ends.{EachTwo, IsAtomicCell}
@@ -26,7 +26,8 @@ module _ {V F S T : Type 0} where
     pub there : slice_get passes process ≡ Some pass
     pub own : last ≡ pass.own
     pub greatest : (i : ℕ) (p : Pass V F S T) → slice_get passes i ≡ Some p → IsAtMost p.own.stamp last.stamp
-    pub earliest : (i : ℕ) (p : Pass V F S T) → i < process → slice_get passes i ≡ Some p → IsBelow p.own.stamp last.stamp
+    pub earliest : (i : ℕ) (p : Pass V F S T) → i < process → slice_get passes i ≡ Some p →
+        IsBelow p.own.stamp last.stamp
 
 -- a pass but for the memory that it keeps for the board's end
 abbrev pub standing : {V F S T : Type 0} → Pass V F S T → ℕ × Posted V × S
@@ -52,9 +53,10 @@ module _ {V F S T : Type 0} (words : FamilyWords F (Posted V) S T) where
   abbrev pub did_by : List (Pass V F S T) → (ℕ → List (Called V)) → ℕ → Did V
   did_by passes calls i = did_at (slice_get passes i) (calls i)
 
-  -- *An atomic run*: the calls are the operations of a history, each once, with their intervals, and there is an order of them by stamp
-  -- that is atomic by these intervals and refuses lawfully; after it the register holds this record, the greatest that a process has. This
-  -- comes of one schedule of all steps, by which each register between two processes is atomic
+  -- *An atomic run*: the calls are the operations of a history, each once, with their intervals, and there is an
+  -- order of them by stamp that is atomic by these intervals and refuses lawfully; after it the register holds this
+  -- record, the greatest that a process has. This comes of one schedule of all steps, by which each register
+  -- between two processes is atomic
   pub record IsAtomicRun (board : Board V F S T) (did : ℕ → Did V) (last : Posted V) : Type 0 where
     pub ops : List (Op V)
     pub stamps : List (Option Stamp)
@@ -74,6 +76,8 @@ module _ {V F S T : Type 0} (words : FamilyWords F (Posted V) S T) where
       → ((i : ℕ) (p : Pass V F S T) → slice_get passes i ≡ Some p → HasMade words board p (calls i))
       → IsAtomicRun board (did_by passes calls) last
 
-  -- each register between two processes is atomic by its intervals: each answer is the record with its number of those written
+  -- each register between two processes is atomic by its intervals: each answer is the record
+  -- with its number of those written
   abbrev pub AllAtomic : Board V F S T → List (Pass V F S T) → Type 0
-  AllAtomic board passes = EachTwo (λ i j p q. IsAtomicCell board.first (words.writes p.seat j) (words.reads q.seat i)) passes
+  AllAtomic board passes =
+      EachTwo (λ i j p q. IsAtomicCell board.first (words.writes p.seat j) (words.reads q.seat i)) passes

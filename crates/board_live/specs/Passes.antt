@@ -1,5 +1,6 @@
 -- The passes of a board's processes, and the calls that were made with them (this project's own).
-use Rattle.std.specs.Prelude.{◌≡◌, ◌≢◌, ◌⊎◌, Bool, IsTrue, ℕ, ◌+◌, ◌-◌, ◌*◌, ◌<◌, ◌≤◌, List, [], ◌∷◌, ◌++◌, length, map, slice_get, Some}
+use Rattle.std.specs.Prelude.{◌≡◌, ◌≢◌, ◌⊎◌, Bool, IsTrue, ℕ, ◌+◌, ◌-◌, ◌*◌, ◌<◌, ◌≤◌, List, [], ◌∷◌}
+use Rattle.std.specs.Prelude.{◌++◌, length, map, slice_get, Some}
 use Rattle.std.specs.Prelude.{All, vec_capacity, Result, Ok, Err, true, false}
 use Rattle.cell_contract.specs.Intervals.{AreFirst, AreHeeded}
 use Rattle.cell_contract.specs.Running.{IsAnswer, last_or}
@@ -23,15 +24,19 @@ module _ {V : Type 0} where
   written_of w = record { items = map stamped w.items; begins = w.times.begins; ends = w.times.ends }
 
   abbrev pub answered_of : ReadAccesses (Posted V) → Answered V
-  answered_of r = record { items = map stamped r.answers; numbers = r.numbers; begins = r.times.begins; ends = r.times.ends }
+  answered_of r =
+      record { items = map stamped r.answers; numbers = r.numbers; begins = r.times.begins; ends = r.times.ends }
 
-  -- one answer more of another process: it is the record with its number of the writes that are known, atomic by its interval; and it
-  -- obeys its law, and is no older than the opening, the answer before it and all that was told of that process
-  pub record IsFurtherAnswer (obeys : V → Bool) (opening : Posted V) (old new : ReadAccesses (Posted V)) (answer : Posted V) : Type 0 where
+  -- one answer more of another process: it is the record with its number of the writes that are known, atomic
+  -- by its interval; and it obeys its law, and is no older than the opening, the answer before it and all
+  -- that was told of that process
+  pub record IsFurtherAnswer (obeys : V → Bool) (opening : Posted V) (old new : ReadAccesses (Posted V))
+      (answer : Posted V) : Type 0 where
     pub read : IsReadAccess opening old new answer
     pub running : IsAnswer (λ p. IsTrue (obeys p.item)) Rises opening old.answers old.told answer
 
-  -- no receipt more, and what is known of the other process's writes begins with those that each of its receipts carried
+  -- no receipt more, and what is known of the other process's writes begins with those that
+  -- each of its receipts carried
   pub record IsMindful (old new : ReadAccesses (Posted V)) : Type 0 where
     pub same : new.heard ≡ old.heard
     pub first : All (λ told. AreFirst told new.known.items new.known.times) new.heard
@@ -48,7 +53,8 @@ module _ {V F S T : Type 0} (family : FamilyWords F (Posted V) S T) where
 
   -- these calls were made with the pass
   pub record HasMade (board : Board V F S T) (pass : Pass V F S T) (calls : List (Called V)) : Type 0 where
-    pub made : IsProcess family.width board.processes board.limit (stamped board.first) pass.process (did_of pass.seat calls)
+    pub made : IsProcess family.width board.processes board.limit (stamped board.first) pass.process
+        (did_of pass.seat calls)
     pub own : stamped pass.own ≡ own_before (stamped board.first) calls (length calls)
 
   -- the pass is of this board, some calls were made with it, and its process has written its own record last
@@ -64,12 +70,13 @@ module _ {V F S T : Type 0} (family : FamilyWords F (Posted V) S T) where
     pub seat : family.is_seat board.family pass.seat
     pub who : family.who pass.seat ≡ pass.process
     pub lawful : IsTrue (obeys pass.own.item)
-    pub last : (j : ℕ) → j < board.processes → j ≢ pass.process → last_or board.first (family.writes pass.seat j).items ≡ pass.own
+    pub last : (j : ℕ) → j < board.processes → j ≢ pass.process →
+        last_or board.first (family.writes pass.seat j).items ≡ pass.own
     pub made : (calls : List (Called V)) × HasMade board pass calls
 
-  -- *Known*: it is the own record, or the record with a number of those that the process knows another one to have written to it, where
-  -- the opening has number 0. These begin with all that the other one had really written to it by each receipt of its that the process
-  -- learnt, and the number is no less than that of the last of them
+  -- *Known*: it is the own record, or the record with a number of those that the process knows another one to have
+  -- written to it, where the opening has number 0. These begin with all that the other one had really written to it by
+  -- each receipt of its that the process learnt, and the number is no less than that of the last of them
   abbrev pub IsKnown : Board V F S T → Pass V F S T → Pass V F S T → Posted V → Type 0
   IsKnown board old new seen = (seen ≡ old.own) ⊎ ((j : ℕ) × (number : ℕ) × (j < board.processes) × (j ≢ old.process)
       × (slice_get (board.first ∷ (family.reads new.seat j).known.items) number ≡ Some seen)
@@ -77,14 +84,17 @@ module _ {V F S T : Type 0} (family : FamilyWords F (Posted V) S T) where
 
   -- *Bounded*: it took at most 2 (n - 1) accesses, of at most three steps each
   pub record IsBounded (board : Board V F S T) (old new : Pass V F S T) : Type 0 where
-    pub accesses : length (family.times new.seat) ≤ length (family.times old.seat) + 2 * (board.processes - 1) * family.width
+    pub accesses : length (family.times new.seat)
+        ≤ length (family.times old.seat) + 2 * (board.processes - 1) * family.width
     pub each : family.width ≤ 3
 
-  -- *A call*: its process saw this record, the greatest of its own and of one answer of each other process, none of which is below what
-  -- it was told of that one; and it wrote the record that it chose to each, or it wrote nothing, where it chose its own record. The call
-  -- begins after all that the process knew of, and takes so many steps: of a read of each other process, and of a write to each where it
-  -- tells what it chose. All of the calls that were made with the pass are those made before and this one
-  pub record IsCall (obeys : V → Bool) (board : Board V F S T) (kind : Kind) (old new : Pass V F S T) (seen : Posted V) : Type 0 where
+  -- *A call*: its process saw this record, the greatest of its own and of one answer of each other process, none of
+  -- which is below what it was told of that one; and it wrote the record that it chose to each, or it wrote nothing,
+  -- where it chose its own record. The call begins after all that the process knew of, and takes so many steps: of a
+  -- read of each other process, and of a write to each where it tells what it chose. All of the calls that were made
+  -- with the pass are those made before and this one
+  pub record IsCall (obeys : V → Bool) (board : Board V F S T) (kind : Kind) (old new : Pass V F S T)
+      (seen : Posted V) : Type 0 where
     pub process : new.process ≡ old.process
     pub begin : ℕ
     pub end : ℕ
@@ -92,15 +102,19 @@ module _ {V F S T : Type 0} (family : FamilyWords F (Posted V) S T) where
     pub answers : List (Posted V)
     pub each : length answers + 1 ≡ board.processes
     pub answered : (e : ℕ) (answer : Posted V) → slice_get answers e ≡ Some answer →
-        IsFurtherAnswer obeys board.first (family.reads old.seat (other old.process e)) (family.reads new.seat (other old.process e)) answer
+        IsFurtherAnswer obeys board.first (family.reads old.seat (other old.process e))
+        (family.reads new.seat (other old.process e)) answer
     pub is_seen : seen ≡ greatest_posted old.own answers
     pub known : IsKnown board old new seen
-    pub heeds : (j : ℕ) → j < board.processes → j ≢ old.process → All (λ t. IsAtMost t.stamp seen.stamp) (family.reads old.seat j).told
-    pub heard : (j : ℕ) → j < board.processes → j ≢ old.process → IsMindful (family.reads old.seat j) (family.reads new.seat j)
+    pub heeds : (j : ℕ) → j < board.processes → j ≢ old.process →
+        All (λ t. IsAtMost t.stamp seen.stamp) (family.reads old.seat j).told
+    pub heard : (j : ℕ) → j < board.processes → j ≢ old.process →
+        IsMindful (family.reads old.seat j) (family.reads new.seat j)
     pub rises : Rises old.own seen
     pub onward : Rises seen new.own
     pub tells : Bool
-    pub steps : length (family.times new.seat) ≡ length (family.times old.seat) + steps_of_call family.width board.processes tells
+    pub steps : length (family.times new.seat)
+        ≡ length (family.times old.seat) + steps_of_call family.width board.processes tells
     pub written : tells ≡ true → (j : ℕ) → j < board.processes → j ≢ old.process →
         IsWriteAccess (family.writes old.seat j) (family.writes new.seat j) new.own
     pub unwritten : tells ≡ false → KeepsEach (family.writes old.seat) (family.writes new.seat) × (new.own ≡ old.own)
@@ -126,7 +140,8 @@ module _ {V : Type 0} where
   -- what a write chooses, and answers: below the limit its item with the next stamp, else what was seen
   abbrev pub ChoosesStamp : ℕ → ℕ → V → Posted V → Posted V → Result Stamp (Refused V) → Type 0
   ChoosesStamp limit process item seen chosen (Ok s) =
-      (seen.stamp.tag < limit) × (s ≡ record { tag = seen.stamp.tag + 1; writer = process }) × (chosen ≡ record { stamp = s; item = item })
+      (seen.stamp.tag < limit) × (s ≡ record { tag = seen.stamp.tag + 1; writer = process })
+      × (chosen ≡ record { stamp = s; item = item })
   ChoosesStamp limit process item seen chosen (Err e) = (limit ≤ seen.stamp.tag) × (e.seen ≡ seen) × (chosen ≡ seen)
 
   abbrev pub kind_of : Result Stamp (Refused V) → Kind

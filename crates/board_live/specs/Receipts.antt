@@ -16,8 +16,8 @@ module _ {V F S T : Type 0} (family : FamilyWords F (Posted V) S T) where
     pub inside : receipt.from < board.processes
     pub names : (j : ℕ) → j < board.processes → j ≢ receipt.from → family.named receipt.told j ≡ receipt.item
 
-  -- the receipt names its sender's own record, has the last time of which its sender knew, and carries all that its sender wrote to each
-  -- other process, with the intervals; nothing was read
+  -- the receipt names its sender's own record, has the last time of which its sender knew, and carries all that its
+  -- sender wrote to each other process, with the intervals; nothing was read
   pub record HasTold (board : Board V F S T) (old new : Pass V F S T) (receipt : Receipt V F S T) : Type 0 where
     pub is : IsReceipt board receipt
     pub from : receipt.from ≡ old.process
@@ -35,7 +35,8 @@ module _ {V F S T : Type 0} (family : FamilyWords F (Posted V) S T) where
     pub time : family.time_of again.told ≡ family.time_of receipt.told
     pub tells : KeepsEach (family.writes_of receipt.told) (family.writes_of again.told)
 
-  -- the process knows of the receipt's time, and was told its record of the sender and the writes that it carries; nothing was read
+  -- the process knows of the receipt's time, and was told its record of the sender and the writes that
+  -- it carries; nothing was read
   pub record HasLearnt (old new : Pass V F S T) (receipt : Receipt V F S T) : Type 0 where
     pub time : family.time_of receipt.told ≤ family.clock new.seat
     pub heard : receipt.from ≢ old.process →

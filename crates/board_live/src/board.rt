@@ -18,8 +18,8 @@ pub struct Pass<V: RecordLaw, F: Family<Posted<V>>> {
     pub(crate) process: usize,
     pub(crate) own: Posted<V>,
     pub(crate) seat: F::Seat,
-    /// Room for the seats of all passes, which the last process's pass has, so that the board's end takes no memory. It isn't the
-    /// board's: threads share that one, and a seat need not be `Sync`.
+    /// Room for the seats of all passes, which the last process's pass has, so that the board's end takes no memory. It
+    /// isn't the board's: threads share that one, and a seat need not be `Sync`.
     pub(crate) room: Vec<F::Seat>,
 }
 

@@ -26,9 +26,12 @@ fn column<V: RecordLaw, F: Family<Posted<V>>>(
 )
     requires of { IsOf ⟦<F as Family<Posted<V>>>⟧ family.now processes process seat.old }
     requires lawful { IsTrue (V.obeys seen.old.item) }
-    requires plan { MayReadEach (MakesCalls (F.opening family.now) F.width (F.processes family.now) (F.limit family.now) (F.who seat.old))
-        F.width (F.processes family.now) (F.who seat.old) (doings (F.times seat.old) (F.writes seat.old) (F.reads seat.old)) }
-    ensures read { HasReadColumn ⟦<F as Family<Posted<V>>>⟧ V.obeys family.now process (processes - 1) seat.old seat.new seen.old seen.new }
+    requires plan { MayReadEach
+        (MakesCalls (F.opening family.now) F.width (F.processes family.now) (F.limit family.now) (F.who seat.old))
+        F.width (F.processes family.now) (F.who seat.old)
+        (doings (F.times seat.old) (F.writes seat.old) (F.reads seat.old)) }
+    ensures read { HasReadColumn ⟦<F as Family<Posted<V>>>⟧ V.obeys family.now process
+        (processes - 1) seat.old seat.new seen.old seen.new }
     ensures so_far { ShowsAll ⟦<F as Family<Posted<V>>>⟧ family.now seat.new }
 {
     family.read_all_from(seat, seen);
@@ -50,9 +53,12 @@ fn row<V: RecordLaw, F: Family<Posted<V>>>(
     requires last { (j : _) → j < processes → j ≢ process → last_or first.now (F.writes seat.old j).items ≡ own.now }
     requires rises { Rises own.now item.now }
     requires lawful { IsTrue (V.obeys item.now.item) }
-    requires plan { MayWriteEach (MakesCalls (F.opening family.now) F.width (F.processes family.now) (F.limit family.now) (F.who seat.old))
-        F.width (F.processes family.now) (F.who seat.old) item.now (doings (F.times seat.old) (F.writes seat.old) (F.reads seat.old)) }
-    ensures row { HasWrittenRow ⟦<F as Family<Posted<V>>>⟧ family.now process (processes - 1) seat.old seat.new item.now }
+    requires plan { MayWriteEach
+        (MakesCalls (F.opening family.now) F.width (F.processes family.now) (F.limit family.now) (F.who seat.old))
+        F.width (F.processes family.now)
+        (F.who seat.old) item.now (doings (F.times seat.old) (F.writes seat.old) (F.reads seat.old)) }
+    ensures row { HasWrittenRow ⟦<F as Family<Posted<V>>>⟧ family.now process
+        (processes - 1) seat.old seat.new item.now }
     ensures so_far { ShowsAll ⟦<F as Family<Posted<V>>>⟧ family.now seat.new }
 {
     family.write_all_from(seat, item);
@@ -74,10 +80,13 @@ fn tell_row<V: RecordLaw, F: Family<Posted<V>>>(
     requires last { (j : _) → j < processes → j ≢ process → last_or first.now (F.writes seat.old j).items ≡ own.now }
     requires rises { Rises own.now item.now }
     requires lawful { IsTrue (V.obeys item.now.item) }
-    requires plan { MayWriteEach (MakesCalls (F.opening family.now) F.width (F.processes family.now) (F.limit family.now) (F.who seat.old))
-        F.width (F.processes family.now) (F.who seat.old) item.now (doings (F.times seat.old) (F.writes seat.old) (F.reads seat.old)) }
+    requires plan { MayWriteEach
+        (MakesCalls (F.opening family.now) F.width (F.processes family.now) (F.limit family.now) (F.who seat.old))
+        F.width (F.processes family.now)
+        (F.who seat.old) item.now (doings (F.times seat.old) (F.writes seat.old) (F.reads seat.old)) }
     requires so_far { ShowsAll ⟦<F as Family<Posted<V>>>⟧ family.now seat.old }
-    ensures row { HasRow ⟦<F as Family<Posted<V>>>⟧ family.now process (processes - 1) seat.old seat.new own.now item.now }
+    ensures row { HasRow ⟦<F as Family<Posted<V>>>⟧ family.now process
+        (processes - 1) seat.old seat.new own.now item.now }
     ensures so_far { ShowsAll ⟦<F as Family<Posted<V>>>⟧ family.now seat.new }
     ensures silent { own.now.stamp ≡ item.now.stamp → seat.new ≡ seat.old }
 {
@@ -87,8 +96,8 @@ fn tell_row<V: RecordLaw, F: Family<Posted<V>>>(
 }
 
 impl<V: RecordLaw, F: Family<Posted<V>>> Board<V, F> {
-    /// Gives the greatest of the process's own record and what each other process shows, and hands it on, where it isn't the own record,
-    /// which was handed on before. It is a record that was really written, or the opening.
+    /// Gives the greatest of the process's own record and what each other process shows, and hands it on, where it
+    /// isn't the own record, which was handed on before. It is a record that was really written, or the opening.
     #[inline]
     pub fn read(&self, pass: &mut Pass<V, F>) -> Posted<V>
         requires { IsPass ⟦<F as Family<Posted<V>>>⟧ V.obeys self.now pass.old }
@@ -101,7 +110,8 @@ impl<V: RecordLaw, F: Family<Posted<V>>> Board<V, F> {
             length (F.times pass.new.seat) ≡ length (F.times pass.old.seat) + (self.now.processes - 1) * F.width }
         ensures bounded { IsBounded ⟦<F as Family<Posted<V>>>⟧ self.now pass.old pass.new }
         ensures lawful { IsTrue (V.obeys result.item) }
-        // All calls of all processes so far, ended or cut off, have one atomic order that refuses lawfully, and this call stands in it.
+        // All calls of all processes so far, ended or cut off, have one atomic order that refuses
+        // lawfully, and this call stands in it.
         ensures so_far { HaveAtomicOrderSoFar ⟦<F as Family<Posted<V>>>⟧ self.now pass.new }
     {
         let before = pass.own;
@@ -124,19 +134,21 @@ impl<V: RecordLaw, F: Family<Posted<V>>> Board<V, F> {
         pass.own
     }
 
-    /// Gives the item the next stamp above what the own record and the others show, and hands it on. If the greatest tag seen isn't below
-    /// the limit, hands on what was seen.
+    /// Gives the item the next stamp above what the own record and the others show, and hands it on. If the greatest
+    /// tag seen isn't below the limit, hands on what was seen.
     #[inline]
     pub fn write(&self, pass: &mut Pass<V, F>, item: V) -> Result<Stamp, Refused<V>>
         requires pass { IsPass ⟦<F as Family<Posted<V>>>⟧ V.obeys self.now pass.old }
         requires item { IsTrue (V.obeys item) }
         ensures pass { IsPass ⟦<F as Family<Posted<V>>>⟧ V.obeys self.now pass.new }
-        ensures call { (seen : _) × IsCall ⟦<F as Family<Posted<V>>>⟧ V.obeys self.now (kind_of result) pass.old pass.new seen
+        ensures call { (seen : _)
+            × IsCall ⟦<F as Family<Posted<V>>>⟧ V.obeys self.now (kind_of result) pass.old pass.new seen
             × ChoosesStamp self.now.limit pass.old.process item seen pass.new.own result }
         ensures raised { IfOk result (λ s. IsBelow pass.old.own.stamp s) }
         ensures bounded { IsBounded ⟦<F as Family<Posted<V>>>⟧ self.now pass.old pass.new }
         ensures lawful { IfErr result (λ e. IsTrue (V.obeys e.seen.item)) }
-        // All calls of all processes so far, ended or cut off, have one atomic order that refuses lawfully, and this call stands in it.
+        // All calls of all processes so far, ended or cut off, have one atomic order that refuses
+        // lawfully, and this call stands in it.
         ensures so_far { HaveAtomicOrderSoFar ⟦<F as Family<Posted<V>>>⟧ self.now pass.new }
     {
         let own = pass.own;

@@ -63,7 +63,8 @@ fn deal<V: RecordLaw, F: Family<Posted<V>>>(
 }
 
 impl<V: RecordLaw, F: Family<Posted<V>>> Board<V, F> {
-    /// A board of so many processes, with their passes in rising order. Each process's own record is the opening at stamp 0.0.
+    /// A board of so many processes, with their passes in rising order. Each process's own record
+    /// is the opening at stamp 0.0.
     pub fn new(
         alloc: Global,
         n: usize,

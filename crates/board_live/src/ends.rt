@@ -57,20 +57,23 @@ fn seats_of<V: RecordLaw, F: Family<Posted<V>>>(passes: Vec<Pass<V, F>>) -> Vec<
     seats
 }
 
-/// Shows what was done so far with all seats: those of the passes, and those that were taken out, the last process's first.
+/// Shows what was done so far with all seats: those of the passes, and those that were taken
+/// out, the last process's first.
 fn shown<V: RecordLaw, F: Family<Posted<V>>>(
     family: &F,
     passes: &mut Vec<Pass<V, F>>,
     seats: &mut Vec<F::Seat>,
 )
     requires all { length (in_order passes.old.items seats.old.items) ≡ F.Family.processes family.now }
-    requires each { Each (λ i s. F.Family.is_seat family.now s × (F.Family.who s ≡ i)) (in_order passes.old.items seats.old.items) }
+    requires each { Each (λ i s. F.Family.is_seat family.now s × (F.Family.who s ≡ i))
+        (in_order passes.old.items seats.old.items) }
     requires room { length passes.old.items + length seats.old.items ≤ vec_capacity seats.old }
     ensures passes { (passes.new.items ≡ passes.old.items) × (vec_capacity passes.new ≡ vec_capacity passes.old) }
     ensures seats { (seats.new.items ≡ seats.old.items) × (vec_capacity seats.new ≡ vec_capacity seats.old) }
     ensures scheduled { (steps : List ℕ) × IsSchedule (F.Family.processes family.now) steps
         × Each (λ i s. F.Family.times s ≡ positions 1 i steps) (in_order passes.old.items seats.old.items) }
-    ensures atomic { EachTwo (λ i j s t. IsAtomicCell (F.Family.opening family.now) (F.Family.writes s j) (F.Family.reads t i))
+    ensures atomic { EachTwo
+        (λ i j s t. IsAtomicCell (F.Family.opening family.now) (F.Family.writes s j) (F.Family.reads t i))
         (in_order passes.old.items seats.old.items) }
 {
     let Some(pass) = passes.pop() else {
@@ -99,8 +102,8 @@ fn shown<V: RecordLaw, F: Family<Posted<V>>>(
 }
 
 impl<V: RecordLaw, F: Family<Posted<V>>> Board<V, F> {
-    /// Shows what all calls so far are together, with all passes lent at once, and goes on: they are atomic by their intervals. Gives the
-    /// greatest of the processes' own records.
+    /// Shows what all calls so far are together, with all passes lent at once, and goes on: they are atomic by their
+    /// intervals. Gives the greatest of the processes' own records.
     pub fn so_far(&self, passes: &mut Vec<Pass<V, F>>) -> Posted<V>
         requires { AllPasses ⟦<F as Family<Posted<V>>>⟧ V.obeys self.now passes.old.items }
         ensures same { map standing passes.new.items ≡ map standing passes.old.items }
@@ -134,8 +137,8 @@ impl<V: RecordLaw, F: Family<Posted<V>>> Board<V, F> {
         last
     }
 
-    /// Ends the board: only here do all passes meet. Gives the greatest of the processes' own records. All calls are atomic by their
-    /// intervals.
+    /// Ends the board: only here do all passes meet. Gives the greatest of the processes' own records. All calls
+    /// are atomic by their intervals.
     pub fn finish(self, passes: Vec<Pass<V, F>>) -> Posted<V>
         requires { AllPasses ⟦<F as Family<Posted<V>>>⟧ V.obeys self passes.items }
         ensures last { IsGreatest passes.items result }

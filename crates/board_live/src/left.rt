@@ -1,4 +1,5 @@
-//! The end of a board with the passes that are left: those of tasks that were lost, or stopped for ever, don't come back.
+//! The end of a board with the passes that are left: those of tasks that were lost, or
+//! stopped for ever, don't come back.
 ghost use Rattle.std.specs.Prelude.{◌≡◌, ◌<◌, IfOk, map, vec_len};
 ghost use Rattle.board_live.specs.Ends.{IsGreatest};
 ghost use Rattle.board_live.specs.Left.{HaveAtomicOrderWith, SomePasses};
@@ -36,9 +37,9 @@ fn seats_left<V: RecordLaw, F: Family<Posted<V>>>(
 }
 
 impl<V: RecordLaw, F: EndsWithSome<Posted<V>>> Board<V, F> {
-    /// Ends the board with the passes that are left, at least one, and frees it: all calls so far, ended or cut off, have one order that is
-    /// atomic by their intervals and refuses lawfully. Gives the greatest of these passes' own records. A refusal drops the board and the
-    /// passes.
+    /// Ends the board with the passes that are left, at least one, and frees it: all calls so far, ended or cut off,
+    /// have one order that is atomic by their intervals and refuses lawfully. Gives the greatest of these passes' own
+    /// records. A refusal drops the board and the passes.
     pub fn finish_with(
         self,
         alloc: Global,

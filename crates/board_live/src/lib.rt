@@ -1,5 +1,5 @@
-//! Running boards over a family of registers in one time: every call is an operation with an interval, and all calls together are
-//! atomic by their intervals.
+//! Running boards over a family of registers in one time: every call is an operation with an interval, and all calls
+//! together are atomic by their intervals.
 #![tactic(auto)]
 
 mod board;

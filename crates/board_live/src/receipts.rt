@@ -16,7 +16,8 @@ pub struct Receipt<V: RecordLaw, F: Family<Posted<V>>> {
 }
 
 impl<V: RecordLaw, F: Family<Posted<V>>> Board<V, F> {
-    /// Gives a receipt for all that the process has done and knows of, to whichever process. It carries all that this one wrote.
+    /// Gives a receipt for all that the process has done and knows of, to whichever process. It
+    /// carries all that this one wrote.
     pub fn tell(&self, pass: &mut Pass<V, F>) -> Receipt<V, F>
         requires { IsPass ⟦<F as Family<Posted<V>>>⟧ V.obeys self.now pass.old }
         ensures pass { IsPass ⟦<F as Family<Posted<V>>>⟧ V.obeys self.now pass.new }
@@ -45,8 +46,8 @@ impl<V: RecordLaw, F: Family<Posted<V>>> Board<V, F> {
         }
     }
 
-    /// Takes a receipt in: from now on the calls of this process begin later than all that the sender had done and knew of, see no record
-    /// that is older than the one that the receipt names, and know the sender's writes up to it.
+    /// Takes a receipt in: from now on the calls of this process begin later than all that the sender had done and knew
+    /// of, see no record that is older than the one that the receipt names, and know the sender's writes up to it.
     pub fn learn(&self, pass: &mut Pass<V, F>, receipt: Receipt<V, F>)
         requires pass { IsPass ⟦<F as Family<Posted<V>>>⟧ V.obeys self.now pass.old }
         requires receipt { IsReceipt ⟦<F as Family<Posted<V>>>⟧ self.now receipt }

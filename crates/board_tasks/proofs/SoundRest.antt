@@ -41,7 +41,9 @@ module _ {V : Type 0} (equal : V → V → Bool) (opening : V) (lost : List Bool
   pub rest_unbroken : AllKeep in_order whole → AllKeep (has_origin equal opening whole) whole →
       (task call : ℕ) → IsOriginBesideLost equal opening lost logs (Broken task call) → ⊥
   rest_unbroken ordered known task call broken = elim broken.either [
-    | inl first ↦ breaks_none in_order logs (λ t j log e at in_log. ordered t j log e (was_there t j log e at in_log) in_log) task call first
-    | inr (_, first) ↦ breaks_none (may_have_origin equal opening lost logs) logs
+    | inl first ↦ breaks_none in_order logs
+        (λ t j log e at in_log. ordered t j log e (was_there t j log e at in_log) in_log) task call first
+    | inr (_, first) ↦ breaks_none
+        (may_have_origin equal opening lost logs) logs
         (λ t j log e at in_log. still_seen e.reply (known t j log e (was_there t j log e at in_log) in_log)) task call first
   ]

@@ -23,9 +23,9 @@ module _ {V : Type 0} where
   abbrev pub entries_of : ℕ → List (Noted V) → List (Entry V)
   entries_of task order = map (λ n. n.entry) (filter (is_of task) order)
 
-  -- what one register does at an entry, which holds this record and has taken so many writes. A write puts its item there, under a
-  -- greater stamp that names its task; a read has the record that is there; a write is refused only after as many writes as the
-  -- limit, and has that record
+  -- what one register does at an entry, which holds this record and has taken so many writes. A write puts its item
+  -- there, under a greater stamp that names its task; a read has the record that is there; a write is refused only
+  -- after as many writes as the limit, and has that record
   abbrev pub RegisterTakesEntry : ℕ → ℕ → Posted V → ℕ → Wish V → Reply V → (Posted V → ℕ → Type 0) → Type 0
   RegisterTakesEntry limit task now writes (Write item) (Written s) rest =
       IsBelow now.stamp s × (s.writer ≡ task) × rest (record { stamp = s; item = item }) (writes + 1)
@@ -41,9 +41,10 @@ module _ {V : Type 0} where
   AreEntriesOfOne limit now writes last (n ∷ ns) = RegisterTakesEntry limit n.task now writes n.entry.wish n.entry.reply
       (λ p m. AreEntriesOfOne limit p m last ns)
 
-  -- an order of logs: of each task it has the entries of its log, in their order, and it has no others; they are those of one
-  -- register, which holds the opening at stamp 0.0 first, and this record in the end
-  pub record IsLogOrder (opening : V) (limit : ℕ) (logs : List (List (Entry V))) (last : Posted V) (order : List (Noted V)) : Type 0 where
+  -- an order of logs: of each task it has the entries of its log, in their order, and it has no others; they are those
+  -- of one register, which holds the opening at stamp 0.0 first, and this record in the end
+  pub record IsLogOrder (opening : V) (limit : ℕ) (logs : List (List (Entry V))) (last : Posted V)
+      (order : List (Noted V)) : Type 0 where
     pub each : (task : ℕ) (log : List (Entry V)) → slice_get logs task ≡ Some log → entries_of task order ≡ log
     pub only : (n : Noted V) → IsIn n order → n.task < length logs
     pub one : AreEntriesOfOne limit (record { stamp = first_stamp; item = opening }) 0 last order

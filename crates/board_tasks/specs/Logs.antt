@@ -26,7 +26,8 @@ stamp_of (Ended p) = p.stamp
 abbrev pub is_at_most : Stamp → Stamp → Bool
 is_at_most a b = not (is_below b a)
 
--- a log of a script: its wishes are those that the script begins with, and its stamps never fall and are at most this one
+-- a log of a script: its wishes are those that the script begins with, and its stamps never
+-- fall and are at most this one
 pub record IsLogOfScript {V : Type 0} (script : List (Wish V)) (log : List (Entry V)) (own : Stamp) : Type 0 where
   pub wishes : map (λ e. e.wish) log ≡ take (length log) script
   pub within : length log ≤ length script

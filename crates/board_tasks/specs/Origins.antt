@@ -1,5 +1,6 @@
 -- Where the records of logs come from (this project's own). `equal` is the test by which a type compares its records.
-use Rattle.std.specs.Prelude.{◌≡◌, ◌⊎◌, Bool, true, false, IsTrue, IsFalse, ◌&&◌, ◌||◌, nat_eq, ℕ, ◌+◌, ◌<◌, List, Option, Some, None}
+use Rattle.std.specs.Prelude.{◌≡◌, ◌⊎◌, Bool, true, false, IsTrue, IsFalse, ◌&&◌, ◌||◌, nat_eq, ℕ, ◌+◌}
+use Rattle.std.specs.Prelude.{◌<◌, List, Option, Some, None}
 use Rattle.std.specs.Prelude.{slice_get, map, take}
 use Rattle.std.specs.List.{list_any}
 use Rattle.history_core.specs.declared.wish.Wish.{Wish}
@@ -27,7 +28,8 @@ stamp_before log k = last_or first_stamp (map (λ e. stamp_of e.reply) (take k l
 module _ {V : Type 0} (rule : ℕ → Stamp → Entry V → Bool) where
   -- the entries of this task's log keep the rule before this place
   abbrev pub KeptBefore : ℕ → List (Entry V) → ℕ → Type 0
-  KeptBefore task log k = (j : ℕ) (e : Entry V) → j < k → slice_get log j ≡ Some e → IsTrue (rule task (stamp_before log j) e)
+  KeptBefore task log k = (j : ℕ) (e : Entry V) → j < k → slice_get log j ≡ Some e →
+      IsTrue (rule task (stamp_before log j) e)
 
   -- the first entry of this task's log that breaks it
   pub record IsFirstIn (task : ℕ) (log : List (Entry V)) (k : ℕ) : Type 0 where
@@ -40,8 +42,8 @@ module _ {V : Type 0} (rule : ℕ → Stamp → Entry V → Bool) where
     -- all entries of the logs of the tasks before this one keep it
     abbrev pub TasksKeep : ℕ → Type 0
     TasksKeep task =
-        (t j : ℕ) (log : List (Entry V)) (e : Entry V) → t < task → slice_get logs t ≡ Some log → slice_get log j ≡ Some e
-        → IsTrue (rule t (stamp_before log j) e)
+        (t j : ℕ) (log : List (Entry V)) (e : Entry V) → t < task → slice_get logs t ≡ Some log →
+        slice_get log j ≡ Some e → IsTrue (rule t (stamp_before log j) e)
 
     -- every entry of every log keeps it
     abbrev pub AllKeep : Type 0
@@ -60,8 +62,8 @@ module _ {V : Type 0} (rule : ℕ → Stamp → Entry V → Bool) where
 -- ---- the two rules
 
 module _ {V : Type 0} where
-  -- the reply is one to this wish. A write's stamp names its task and is above the stamp before; that of a record that was seen isn't
-  -- below it
+  -- the reply is one to this wish. A write's stamp names its task and is above the stamp before; that of a record
+  -- that was seen isn't below it
   abbrev pub is_reply_at : ℕ → Stamp → Wish V → Reply V → Bool
   is_reply_at task before (Write item) (Written s) = nat_eq s.writer task && is_below before s
   is_reply_at task before (Write item) (Seen p) = false
@@ -104,9 +106,11 @@ module _ {V : Type 0} (equal : V → V → Bool) where
 
     -- the first entry that is out of order, or, where all are in order, the first without an origin
     pub record IsBroken (task call : ℕ) : Type 0 where
-      pub either : IsFirstBrokenOrigin in_order logs task call ⊎ (AllKeep in_order logs × IsFirstBrokenOrigin has_origin logs task call)
+      pub either : IsFirstBrokenOrigin in_order logs task call
+          ⊎ (AllKeep in_order logs × IsFirstBrokenOrigin has_origin logs task call)
 
-    -- *Sound*: every entry is in order, so that each stamp has one write at most, and has an origin. Else this is the first that isn't
+    -- *Sound*: every entry is in order, so that each stamp has one write at most, and has an origin. Else
+    -- this is the first that isn't
     abbrev pub IsOrigin : Origin → Type 0
     IsOrigin Sound = AllKeep in_order logs × AllKeep has_origin logs
     IsOrigin (Broken task call) = IsBroken task call

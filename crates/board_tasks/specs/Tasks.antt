@@ -35,7 +35,8 @@ Replies limit process Read seen chosen (Seen p) = (p ≡ seen) × (chosen ≡ se
 Replies limit process Read seen chosen (Written s) = ⊥
 Replies limit process Read seen chosen (Ended p) = ⊥
 Replies limit process (Write item) seen chosen (Written s) =
-    (seen.stamp.tag < limit) × (s ≡ record { tag = seen.stamp.tag + 1; writer = process }) × (chosen ≡ record { stamp = s; item = item })
+    (seen.stamp.tag < limit) × (s ≡ record { tag = seen.stamp.tag + 1; writer = process })
+    × (chosen ≡ record { stamp = s; item = item })
 Replies limit process (Write item) seen chosen (Seen p) = ⊥
 Replies limit process (Write item) seen chosen (Ended p) = (limit ≤ seen.stamp.tag) × (p ≡ seen) × (chosen ≡ seen)
 
@@ -56,9 +57,10 @@ module _ {V F S T : Type 0} (family : FamilyWords F (Posted V) S T) (obeys : V �
   AreCalls board old [] new = old ≡ new
   AreCalls board old (e ∷ es) new = (p : Pass V F S T) × IsEntry board old e p × AreCalls board p es new
 
-  -- the log has the entries of the board calls that were made, and the task had a permit for each of these calls; the whole script was
-  -- done, or the task may stop before the next call
-  pub record Ran (may_call may_stop : ℕ → ℕ → Type 0) (board : Board V F S T) (task : ℕ) (old new : Lane V F S T) : Type 0 where
+  -- the log has the entries of the board calls that were made, and the task had a permit for each of these calls; the
+  -- whole script was done, or the task may stop before the next call
+  pub record Ran (may_call may_stop : ℕ → ℕ → Type 0) (board : Board V F S T) (task : ℕ)
+      (old new : Lane V F S T) : Type 0 where
     pub of : IsPass family obeys board new.pass
     pub is : IsLane obeys new
     pub script : new.script ≡ old.script

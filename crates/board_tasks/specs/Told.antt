@@ -7,7 +7,8 @@ use Rattle.board_tasks.specs.declared.lane.Entry.{Entry}
 use Rattle.board_tasks.specs.Lost.{is_lost}
 use Rattle.board_tasks.specs.Worked.{EachTells}
 
--- *Of a run*: a board that opened with this record was run by a process for each log, and each entry of a log tells of its process's call
+-- *Of a run*: a board that opened with this record was run by a process for each log, and each entry of a
+-- log tells of its process's call
 pub record AreOfRun {V : Type 0} (opening : V) (logs : List (List (Entry V))) : Type 0 where
   pub width : ℕ
   pub limit : ℕ

@@ -59,7 +59,8 @@ module _ {V F S T : Type 0} (family : FamilyWords F (Posted V) S T) (obeys : V �
     pub each : (k : ℕ) (lane : Lane V F S T) → slice_get lanes k ≡ Some lane → HasWorked board k lane
 
 module _ {V F S T : Type 0} (family : FamilyWords F (Posted V) S T) where
-  -- *Atomic*: each entry of each log tells of a call, and all these calls are an atomic run, after which the register holds this record
+  -- *Atomic*: each entry of each log tells of a call, and all these calls are an atomic run, after which
+  -- the register holds this record
   pub record AreAtomicLogs (board : Board V F S T) (lanes : List (Lane V F S T)) (last : Posted V) : Type 0 where
     pub calls : ℕ → List (Called V)
     pub told : (i : ℕ) (lane : Lane V F S T) → slice_get lanes i ≡ Some lane → EachTells lane.log.items (calls i)

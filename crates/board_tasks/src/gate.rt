@@ -7,10 +7,11 @@ use board_live::{Posted, RecordLaw};
 use cell_contract::Family;
 use std::sync::atomic::{AtomicU64, Ordering};
 
-/// What decides before each call of a task whether it goes on. It stands between the calls of running tasks, so here a program
-/// measures them. Tasks count from 0 and calls from 1.
+/// What decides before each call of a task whether it goes on. It stands between the calls of running tasks, so here a
+/// program measures them. Tasks count from 0 and calls from 1.
 pub trait Gate {
-    /// The right to one call. Code over any gate can neither make one nor let it go: it gets one from `before` and owes it to `after`.
+    /// The right to one call. Code over any gate can neither make one nor let it go: it gets one from
+    /// `before` and owes it to `after`.
     type Permit;
 
     // Whether the permit is for this call of this task.
@@ -101,8 +102,8 @@ impl Gate for CountingGate {
     }
 }
 
-/// Stops all tasks after a time. Its time is a number of turns: each call of any task takes one, and where none is left the task
-/// stops.
+/// Stops all tasks after a time. Its time is a number of turns: each call of any task takes one, and where
+/// none is left the task stops.
 #[derive(Drop)]
 pub struct TimedGate {
     turns: u64,

@@ -87,8 +87,8 @@ fn all_parts<V: RecordLaw + Drop, F: Family<Posted<V>>>(
     Ok((passes, logs))
 }
 
-/// Ends the board of these lanes. Gives the log of each task, and the last record. The entries of the logs tell of calls that are atomic
-/// by their intervals, so the logs have one order. A refusal drops the board and the lanes.
+/// Ends the board of these lanes. Gives the log of each task, and the last record. The entries of the logs tell of
+/// calls that are atomic by their intervals, so the logs have one order. A refusal drops the board and the lanes.
 pub fn finish_lanes<V: RecordLaw + Drop, F: Family<Posted<V>>>(
     alloc: Global,
     board: Board<V, F>,
@@ -105,9 +105,9 @@ pub fn finish_lanes<V: RecordLaw + Drop, F: Family<Posted<V>>>(
 }
 
 /// Ends the board of the lanes that came back, at least one. Gives the log of each, and the greatest record that one of
-/// them has. The entries of the logs tell of calls that are atomic by their intervals, with some calls of the tasks that
-/// were lost, of which each may be cut off in its last. So the logs of all, with an empty one for each task that was
-/// lost, are sound by `check_origin_beside`. A refusal drops the board and the lanes.
+/// them has. The entries of the logs tell of calls that are atomic by their intervals, with some calls of the tasks
+/// that were lost, of which each may be cut off in its last. So the logs of all, with an empty one for each task that
+/// was lost, are sound by `check_origin_beside`. A refusal drops the board and the lanes.
 pub fn finish_left<V: RecordLaw + Drop, F: EndsWithSome<Posted<V>>>(
     alloc: Global,
     board: Board<V, F>,

@@ -1,6 +1,7 @@
-//! Tasks over a board whose calls are atomic by their intervals. A lane is a pass with a script of calls and the log of what they answered;
-//! `run_tasks` runs each lane in a thread of its own, and `finish_lanes` ends the board: the logs tell of calls that are atomic together.
-//! `check_origin` finds exactly the logs that are sound, and so are those of a board's run and those that have one order.
+//! Tasks over a board whose calls are atomic by their intervals. A lane is a pass with a script of calls and the log of
+//! what they answered; `run_tasks` runs each lane in a thread of its own, and `finish_lanes` ends the board: the logs
+//! tell of calls that are atomic together. `check_origin` finds exactly the logs that are sound, and so are those of a
+//! board's run and those that have one order.
 #![tactic(auto)]
 
 mod gate;

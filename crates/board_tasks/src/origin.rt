@@ -54,10 +54,11 @@ pub enum Origin {
     Broken { task: usize, call: usize },
 }
 
-/// Looks at each entry of the logs, of which the one at place k is that of process k. First, whether all are in order: each reply is one
-/// to its wish, a write's stamp names its task and is above the stamp of the entry before, and no other stamp is below that. Then,
-/// whether each record that was seen is the opening at stamp 0.0 or was written by an entry of the log that its stamp names; such a log
-/// is searched by halves. The logs of a board's run are sound, and so are logs that have one order.
+/// Looks at each entry of the logs, of which the one at place k is that of process k. First, whether all are in order:
+/// each reply is one to its wish, a write's stamp names its task and is above the stamp of the entry before, and no
+/// other stamp is below that. Then, whether each record that was seen is the opening at stamp 0.0 or was written by an
+/// entry of the log that its stamp names; such a log is searched by halves. The logs of a board's run are sound, and so
+/// are logs that have one order.
 pub fn check_origin<V: Copy + Eq, L: HasLog<V>>(opening: V, logs: &[L]) -> Origin
     ensures origin { IsOrigin V.eq opening (map L.logged logs.now) result }
     ensures run { AreOfRun opening (map L.logged logs.now) → result ≡ Sound }
@@ -82,8 +83,8 @@ pub fn check_origin_beside<V: Copy + Eq, L: HasLog<V>>(
     lost: &[bool],
 ) -> Origin
     ensures origin { IsOriginBesideLost V.eq opening lost.now (map L.logged logs.now) result }
-    ensures rest { (whole : _) → IsOrigin V.eq opening whole Sound → AreWithoutLost lost.now whole (map L.logged logs.now)
-        → result ≡ Sound }
+    ensures rest { (whole : _) → IsOrigin V.eq opening whole Sound →
+        AreWithoutLost lost.now whole (map L.logged logs.now) → result ≡ Sound }
     ensures run { AreOfRunBeside opening lost.now (map L.logged logs.now) → result ≡ Sound }
 {
     if let Some((task, call)) = first_break(&InOrder, logs) {

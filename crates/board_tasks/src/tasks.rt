@@ -43,8 +43,10 @@ pub fn run_tasks<
 where
     F::Seat: Send,
     F::Receipt: Send,
-    requires { AllReady (λ l. IsPass ⟦<F as Family<Posted<V>>>⟧ V.obeys board.now l.pass × IsLane V.obeys l) 0 lanes.old }
-    ensures { EachStep (Ran ⟦<F as Family<Posted<V>>>⟧ V.obeys (Permitted G.is_for gate.now) (G.may_stop gate.now) board.now)
+    requires { AllReady (λ l. IsPass ⟦<F as Family<Posted<V>>>⟧ V.obeys board.now l.pass
+        × IsLane V.obeys l) 0 lanes.old }
+    ensures { EachStep
+        (Ran ⟦<F as Family<Posted<V>>>⟧ V.obeys (Permitted G.is_for gate.now) (G.may_stop gate.now) board.now)
         0 lanes.old lanes.new }
 {
     run_each(rt, &Runner { board, gate }, 0, lanes);

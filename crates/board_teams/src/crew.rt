@@ -1,5 +1,5 @@
-//! Boards whose tasks have scripts. A script is a list of numbers: 0 is a read, and any other number is a write of the record that is this
-//! number alone.
+//! Boards whose tasks have scripts. A script is a list of numbers: 0 is a read, and any other number is a write of the
+//! record that is this number alone.
 ghost use Rattle.std.specs.Prelude.{◌≡◌, All, IfOk, IsTrue, length};
 ghost use Rattle.history_core.specs.Band.{fits};
 ghost use Rattle.matrix_core.specs.Stamps.{first_stamp};

@@ -16,9 +16,9 @@ abbrev pub opens_with : {V : Type 0} → V → Posted V
 opens_with v = record { stamp = first_stamp; item = v }
 
 module _ {V F S T : Type 0} (words : FamilyWords F (Posted V) S T) (obeys : V → Bool) where
-  -- a write that was done, of the place's board and pass before and after: one call of the board, which chose the record
-  -- under the stamp. With its end all calls of all processes so far, ended or cut off, have one atomic order, and this one
-  -- stands in it
+  -- a write that was done, of the place's board and pass before and after: one call of the board, which chose the
+  -- record under the stamp. With its end all calls of all processes so far, ended or cut off, have one atomic
+  -- order, and this one stands in it
   pub record HasPosted (b b' : Board V F S T) (p p' : Pass V F S T) (item : V) (s : Stamp) : Type 0 where
     pub same : b' ≡ b
     pub seen : Posted V
@@ -27,7 +27,8 @@ module _ {V F S T : Type 0} (words : FamilyWords F (Posted V) S T) (obeys : V �
     pub raised : IsBelow p.own.stamp s
     pub so_far : HaveAtomicOrderSoFar words b p'
 
-  -- a write where the tags have ended: one call of the board, which chose what it saw. All calls so far have an order as above
+  -- a write where the tags have ended: one call of the board, which chose what it saw. All calls
+  -- so far have an order as above
   pub record IsRefused (b b' : Board V F S T) (p p' : Pass V F S T) : Type 0 where
     pub same : b' ≡ b
     pub seen : Posted V
@@ -36,8 +37,8 @@ module _ {V F S T : Type 0} (words : FamilyWords F (Posted V) S T) (obeys : V �
     pub chosen : p'.own ≡ seen
     pub so_far : HaveAtomicOrderSoFar words b p'
 
-  -- a read: one call of the board, which chose what it saw and answered it. It was written, or is the opening. All calls so
-  -- far have an order as above
+  -- a read: one call of the board, which chose what it saw and answered it. It was written, or is the opening. All
+  -- calls so far have an order as above
   pub record HasSeen (b b' : Board V F S T) (p p' : Pass V F S T) (answer : Posted V) : Type 0 where
     pub same : b' ≡ b
     pub call : IsCall words obeys b Read p p' answer

@@ -37,5 +37,6 @@ module _ {S W : Type 0} where
 
   abbrev pub OpensBoxes : {D : Type 0} → (S → D) → (ℕ → ℕ → W → List S → Type 0) → ℕ → ℕ → W
       → Result (Vec (Box D) Global) BoardError → Type 0
-  OpensBoxes side is_made n limit w (Ok v) = (ss : List S) × is_made n limit w ss × (length v.items ≡ n) × AreBoxed side ss v.items
+  OpensBoxes side is_made n limit w (Ok v) = (ss : List S) × is_made n limit w ss × (length v.items ≡ n)
+      × AreBoxed side ss v.items
   OpensBoxes side is_made n limit w (Err e) = IsWhy n limit e

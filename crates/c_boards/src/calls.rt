@@ -11,7 +11,8 @@ use matrix_core::Stamp;
 /// Writes by the place in the struct.
 #[inline]
 fn post_inside<D: Wraps<S>, W: Copy, S: Posts<W>>(side: &mut D, item: &W) -> Option<Stamp>
-    ensures posted { IfSome result (λ s. (q : S) × (side.new ≡ D.side q) × S.has_posted (D.inner side.old) q item.now s) }
+    ensures posted { IfSome result (λ s. (q : S) × (side.new ≡ D.side q)
+        × S.has_posted (D.inner side.old) q item.now s) }
     ensures refused { IfNone result ((q : S) × (side.new ≡ D.side q) × S.is_refused (D.inner side.old) q) }
 {
     side.inside().post(item)
@@ -69,8 +70,8 @@ pub fn read_place<D: Wraps<S>, L: Holds<D>, W: Copy, S: Posts<W>>(
     requires { live.old ≡ code → L.full loose.old ≡ true }
     ensures live { live.new ≡ live.old }
     ensures full { L.full loose.new ≡ L.full loose.old }
-    ensures read { IsBoardRead code D.side S.has_seen (holding live.old (L.side loose.old)) (holding live.new (L.side loose.new))
-        item.old item.new stamp.old stamp.new result }
+    ensures read { IsBoardRead code D.side S.has_seen (holding live.old (L.side loose.old))
+        (holding live.new (L.side loose.new)) item.old item.new stamp.old stamp.new result }
 {
     if *live != code {
         return lacks(*live);
@@ -94,8 +95,8 @@ pub fn read_place_since<D: Wraps<S>, L: Holds<D>, W: Copy, S: Posts<W>>(
     requires { live.old ≡ code → L.full loose.old ≡ true }
     ensures live { live.new ≡ live.old }
     ensures full { L.full loose.new ≡ L.full loose.old }
-    ensures read { IsBoardReadSince code D.side S.has_seen (holding live.old (L.side loose.old)) (holding live.new (L.side loose.new))
-        least.now item.old item.new stamp.old stamp.new result }
+    ensures read { IsBoardReadSince code D.side S.has_seen (holding live.old (L.side loose.old))
+        (holding live.new (L.side loose.new)) least.now item.old item.new stamp.old stamp.new result }
 {
     let status = read_place::<D, L, W, S>(code, live, loose, item, stamp);
     if status != DONE {

@@ -1,7 +1,7 @@
 //! A place at a board, and the calls that C makes on it through a handle, over any record, family and handle.
 //!
-//! A place is a share of the board with the pass of one of its processes. What a handle is, and which place it can have, is for
-//! the crate above to say.
+//! A place is a share of the board with the pass of one of its processes. What a handle is, and which place it can
+//! have, is for the crate above to say.
 #![tactic(auto)]
 
 mod calls;

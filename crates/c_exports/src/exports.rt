@@ -1,6 +1,7 @@
 // made by c/exports.py
-//! The exports: for each cell and size a make, a write, a read, a look and an end of either side, and of a triple buffer a hold, a
-//! loan and what publishes it; for each family and size of a board a make, a write, two reads and an end; and the library's version.
+//! The exports: for each cell and size a make, a write, a read, a look and an end of either side, and of a triple
+//! buffer a hold, a loan and what publishes it; for each family and size of a board a make, a write, two reads and an
+//! end; and the library's version.
 
 mod board_24;
 mod board_256;

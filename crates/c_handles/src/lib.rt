@@ -1,7 +1,8 @@
-//! Handles that C can hold, each with a type of its own, and the sides of cells and the places at boards that they can have.
+//! Handles that C can hold, each with a type of its own, and the sides of cells and the places
+//! at boards that they can have.
 //!
-//! A handle has an erased box of its side, or nothing. C's struct is the same for all of them, so a call may be handed a handle of
-//! another type: `live` has the number of the type, and what has another number has no side of this one.
+//! A handle has an erased box of its side, or nothing. C's struct is the same for all of them, so a call may be handed
+//! a handle of another type: `live` has the number of the type, and what has another number has no side of this one.
 #![tactic(auto)]
 
 pub mod handles;

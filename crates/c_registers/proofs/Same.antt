@@ -13,5 +13,6 @@ module _ (T : RattleType) (clone : Ghosts T.Denot) where
   same_writer p q room number =
       let filler : RattleType = fillers.the_row T clone in
       let once = writers.the_propositions T.Denot (rooms.the_row filler).coded filler.coded T.coded in
-      ap (λ t. record { room = t.0.0; number = t.0.1.0; own = t.1.0; last = t.1.1.0 }) (Σ_prop_path once {u = ((p.room, (p.number, tt)), (p.own, (p.last, tt)))}
-      {v = ((q.room, (q.number, tt)), (q.own, (q.last, tt)))} (λ i. (room i, (number i, tt))))
+      ap (λ t. record { room = t.0.0; number = t.0.1.0; own = t.1.0; last = t.1.1.0 })
+      (Σ_prop_path once {u = ((p.room, (p.number, tt)), (p.own, (p.last, tt)))} {v = ((q.room, (q.number, tt)), (q.own, (q.last, tt)))}
+      (λ i. (room i, (number i, tt))))

@@ -22,8 +22,9 @@ module _ {W : Type 0} where
     pub timeless : (put_times p.put ≡ no_times) × (get_times g.get ≡ no_times)
     pub unknown : (numbers_of g.get ≡ []) × (known_to g.get ≡ none_known)
 
-  -- the writing side before and after a write of the record: it is written under the next number, and nothing else, in an interval after
-  -- the write before. It takes two control accesses where `latest` has the pair already, and else three
+  -- the writing side before and after a write of the record: it is written under the next number, and
+  -- nothing else, in an interval after the write before. It takes two control accesses where `latest` has
+  -- the pair already, and else three
   pub record HasWritten (p q : FourSlotWriter W) (w : W) : Type 0 where
     pub same : q.cell ≡ p.cell
     pub next : q.number ≡ p.number + 1
@@ -33,9 +34,9 @@ module _ {W : Type 0} where
     pub moved : pair_shown q.put ≢ pair_shown p.put → writer_accesses q.put ≡ writer_accesses p.put + 3
     pub timed : IsNextCall (put_times p.put) (put_times q.put)
 
-  -- the reading side before and after a read: the answer follows the opening, the answer before and what was told. It comes by two control
-  -- accesses where `reading` has the pair already, and else by three. It was written: it is the record with its place of the writes known,
-  -- whole, and with these all answers are atomic by their intervals
+  -- the reading side before and after a read: the answer follows the opening, the answer before and what was told. It
+  -- comes by two control accesses where `reading` has the pair already, and else by three. It was written: it is the
+  -- record with its place of the writes known, whole, and with these all answers are atomic by their intervals
   pub record HasRead (g h : FourSlotReader W) (a : Numbered W) : Type 0 where
     pub same : h.cell ≡ g.cell
     pub answers : answers_of h.get ≡ answers_of g.get ++ a ∷ []
@@ -48,4 +49,5 @@ module _ {W : Type 0} where
     pub written : IsNextAnswer (opening_of (arc_value g.cell)) (known_to g.get)
         (known_to h.get) (numbers_of g.get) (numbers_of h.get)
         (answers_of h.get) (get_times h.get) a
-    pub so_far : AreCallsSoFar Always IsNoEarlier (opening_of (arc_value g.cell)) (heard_by h.get) (answers_of h.get) (get_times h.get)
+    pub so_far : AreCallsSoFar Always IsNoEarlier (opening_of (arc_value g.cell)) (heard_by h.get)
+        (answers_of h.get) (get_times h.get)

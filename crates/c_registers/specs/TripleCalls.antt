@@ -25,8 +25,8 @@ module _ {W : Type 0} where
     pub timeless : (put_times p.room.inner.put ≡ no_times) × (get_times g.room.inner.get ≡ no_times)
     pub unknown : (numbers_of g.room.inner.get ≡ []) × (known_to g.room.inner.get ≡ none_known)
 
-  -- the writing side's pass before and after a write of the record: it is written, and nothing else, by at most three control accesses, in
-  -- an interval after the write before
+  -- the writing side's pass before and after a write of the record: it is written, and nothing else, by at most three
+  -- control accesses, in an interval after the write before
   pub record HasWrittenBy (p q : TripleFiller W) (a : Numbered W) : Type 0 where
     pub same : q.cell ≡ p.cell
     pub written : written_by q.put ≡ written_by p.put ++ a ∷ []
@@ -53,9 +53,9 @@ module _ {W : Type 0} where
   abbrev pub writer_with : TripleWriter W → W → TripleWriter W
   writer_with p w = record p { room = record { inner = filler_with p.room.inner (numbered (in_slot p).number w) } }
 
-  -- the reading side before and after a read: the answer follows the opening, the answer before and what was told, and comes by at most
-  -- three control accesses. It was written: it is the record with its place of the writes known, whole, and with these all answers are
-  -- atomic by their intervals
+  -- the reading side before and after a read: the answer follows the opening, the answer before and what was told, and
+  -- comes by at most three control accesses. It was written: it is the record with its place of the writes known,
+  -- whole, and with these all answers are atomic by their intervals
   pub record HasReadBy (g h : TripleEnds W) (a : Numbered W) : Type 0 where
     pub same : h.cell ≡ g.cell
     pub at_hand : at_hand_of h.get ≡ a
@@ -67,7 +67,8 @@ module _ {W : Type 0} where
     pub written : IsNextAnswer (opening_of (arc_value g.cell)) (known_to g.get)
         (known_to h.get) (numbers_of g.get) (numbers_of h.get)
         (answers_of h.get) (get_times h.get) a
-    pub so_far : AreCallsSoFar Always IsNoEarlier (opening_of (arc_value g.cell)) (heard_by h.get) (answers_of h.get) (get_times h.get)
+    pub so_far : AreCallsSoFar Always IsNoEarlier (opening_of (arc_value g.cell)) (heard_by h.get)
+        (answers_of h.get) (get_times h.get)
 
   abbrev pub HasRead : TripleReader W → TripleReader W → Numbered W → Type 0
   HasRead g h a = HasReadBy g.room.inner h.room.inner a
@@ -76,7 +77,8 @@ module _ {W : Type 0} where
   abbrev pub at_hand : TripleReader W → Numbered W
   at_hand g = at_hand_of g.room.inner.get
 
-  -- the second reading side is the first one: it has the same cell, knows the same, and holds the same record in the same slot
+  -- the second reading side is the first one: it has the same cell, knows the same, and holds the
+  -- same record in the same slot
   pub record StaysBy (g h : TripleEnds W) : Type 0 where
     pub same : h.cell ≡ g.cell
     pub pass : IsSame g.get h.get

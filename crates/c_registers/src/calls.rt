@@ -1,10 +1,12 @@
 //! The calls of C, over any record, cell, side and handle.
 //!
-//! While a call runs on a side, `live` of its handle is BUSY. A call that is cut off leaves it so, and each later one is refused.
+//! While a call runs on a side, `live` of its handle is BUSY. A call that is cut off leaves it so,
+//! and each later one is refused.
 ghost use Rattle.std.specs.Prelude.{◌≡◌, ◌≢◌, ◌+◌, ◌≤◌, ◌^◌, true, false, IfSome, IfOk, IfErr, ⊤};
 ghost use Rattle.std.specs.Borrow.{sem, follows_so, Lends, LendsSoOk};
 ghost use mathlib.Core.Option.{none};
-ghost use Rattle.c_registers.specs.Handles.{holding, busy, Has, LacksSide, IsMake, IsWrite, IsPublish, IsRead, IsLook, IsEnd};
+ghost use Rattle.c_registers.specs.Handles.{holding, busy, Has, LacksSide, IsMake, IsWrite};
+ghost use Rattle.c_registers.specs.Handles.{IsPublish, IsRead, IsLook, IsEnd};
 ghost use Rattle.c_registers.specs.Handles.{IsHold, IsBack, IsSlotFilled};
 ghost use Rattle.c_registers.specs.TripleCalls.{at_hand, in_slot, Stays, HasPublished, writer_with};
 ghost use Rattle.c_registers.specs.Numbers.{numbered};
@@ -54,7 +56,8 @@ pub fn make<
 >(alloc: Global, first: &W, writer: &mut H, reader: &mut K) -> u32
     ensures { IsMake (H.CODE, K.CODE) D.side E.side P.is_made
         (holding (H.live writer.old) (H.side writer.old)) (holding (K.live reader.old) (K.side reader.old))
-        (holding (H.live writer.new) (H.side writer.new)) (holding (K.live reader.new) (K.side reader.new)) first.now result }
+        (holding (H.live writer.new) (H.side writer.new))
+        (holding (K.live reader.new) (K.side reader.new)) first.now result }
 {
     if writer.live() != 0 {
         return IN_USE;
@@ -190,8 +193,8 @@ pub fn read<D: Wraps<G>, L: Holds<D>, W: Copy, G: Reading<W>>(
     requires { live.old ≡ code → L.full loose.old ≡ true }
     ensures live { live.new ≡ live.old }
     ensures full { L.full loose.new ≡ L.full loose.old }
-    ensures read { IsRead code D.side G.has_read (holding live.old (L.side loose.old)) (holding live.new (L.side loose.new))
-        item.old item.new number.old number.new result }
+    ensures read { IsRead code D.side G.has_read (holding live.old (L.side loose.old))
+        (holding live.new (L.side loose.new)) item.old item.new number.old number.new result }
 {
     if *live != code {
         return lacks(*live);
@@ -241,7 +244,8 @@ pub fn hold<'a, D: Wraps<TripleReader<W>> + 'a, L: Holds<D>, W: Copy + 'a>(
     at: &mut &'a W,
 ) -> Lending<'a>
     requires { live ≡ code → L.full loose.old ≡ true }
-    ensures* back { sem 𝓛 (follows_so L.row L.row loose.entry.ghost_name none (λ _ _. ⊤) (λ l. (L.full l ≡ L.full loose.old)
+    ensures* back { sem 𝓛
+        (follows_so L.row L.row loose.entry.ghost_name none (λ _ _. ⊤) (λ l. (L.full l ≡ L.full loose.old)
         × IsBack code D.side Stays (holding live (L.side loose.old)) (holding live (L.side l)))) }
     ensures hold { IsHold code D.side at_hand (holding live (L.side loose.old)) at.old.now at.new.now result.status }
 {
@@ -260,8 +264,8 @@ pub fn hold<'a, D: Wraps<TripleReader<W>> + 'a, L: Holds<D>, W: Copy + 'a>(
     }
 }
 
-/// Lends the words in the writing side's slot, to be filled where the record will lie, until the side is used again. They are an older
-/// record's, or the opening's.
+/// Lends the words in the writing side's slot, to be filled where the record will lie, until the side is used again.
+/// They are an older record's, or the opening's.
 #[inline]
 pub fn slot<'a, D: Wraps<TripleWriter<W>> + 'a, L: Holds<D>, W: Copy + 'a>(
     loose: &'a mut L,
@@ -270,7 +274,8 @@ pub fn slot<'a, D: Wraps<TripleWriter<W>> + 'a, L: Holds<D>, W: Copy + 'a>(
 ) -> Result<&'a mut W, u32>
     requires { live ≡ code → L.full loose.old ≡ true }
     ensures* lent { sem 𝓛 (LendsSoOk L.row W.row loose.entry result (λ l w. (L.full l ≡ L.full loose.old)
-        × IsSlotFilled code D.side writer_with (holding live (L.side loose.old)) (holding live (L.side l)) w) (λ l. l ≡ loose.old)) }
+        × IsSlotFilled code D.side writer_with (holding live (L.side loose.old)) (holding live (L.side l)) w)
+        (λ l. l ≡ loose.old)) }
     ensures ok { IfOk result (λ at. (p : TripleWriter W) × Has code (holding live (L.side loose.old)) (D.side p)
         × (at.now ≡ (in_slot p).words)) }
     ensures err { IfErr result (λ n. (live ≢ code) × LacksSide live n) }
@@ -284,7 +289,8 @@ pub fn slot<'a, D: Wraps<TripleWriter<W>> + 'a, L: Holds<D>, W: Copy + 'a>(
 
 /// Ends the side that the handle has.
 pub fn end<D: Drop, H: Hand<D>>(alloc: Global, handle: &mut H) -> u32
-    ensures { IsEnd H.CODE (holding (H.live handle.old) (H.side handle.old)) (holding (H.live handle.new) (H.side handle.new)) result }
+    ensures { IsEnd H.CODE (holding (H.live handle.old) (H.side handle.old))
+        (holding (H.live handle.new) (H.side handle.new)) result }
 {
     let live = handle.live();
     if live != H::CODE {

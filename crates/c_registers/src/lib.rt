@@ -1,8 +1,8 @@
 //! The two sides of a cell, and the calls that C makes on them through handles, over any record, cell, side and handle.
 //!
-//! A handle has a box of one side, or nothing of its type, so a call that is handed an empty handle, or another side, answers by a
-//! status. What a handle is, and which side it can have, is for the crate above to say. Records are numbered: the opening is number 0, and each
-//! write has the next number.
+//! A handle has a box of one side, or nothing of its type, so a call that is handed an empty handle, or another side,
+//! answers by a status. What a handle is, and which side it can have, is for the crate above to say. Records are
+//! numbered: the opening is number 0, and each write has the next number.
 #![tactic(auto)]
 
 mod calls;

@@ -268,5 +268,6 @@ module _ {T : Type 0} (fits : T → Type 0) (rises : T → T → Type 0) (same :
   pub receipts_rise : ReadsRiseFromReceipts fits rises
   receipts_rise opening heard answers reads told n k j e f s x b h at there ended =
       let first : AreFirst told h.written h.writes = one_of (λ t. AreFirst t h.written h.writes) heard n told h.told at in
-      rise_from_writes opening h.written h.writes answers reads h.in_turn h.begun h.ended h.order fits rises same along h.lawful k j e f s x b
-      (in_more told.items h.written first.items k x there) (in_more told.times.ends h.writes.ends first.ends k e ended)
+      rise_from_writes opening h.written h.writes answers reads h.in_turn h.begun h.ended h.order fits rises same along
+      h.lawful k j e f s x b (in_more told.items h.written first.items k x there)
+      (in_more told.times.ends h.writes.ends first.ends k e ended)

@@ -7,7 +7,8 @@ use Rattle.std.proofs.lemmas.Option.{slice_get_within, same_Some}
 use Rattle.four_slot_core.proofs.Pushed.{get_before, get_cases}
 use Rattle.history_core.proofs.Times.{of_before, to_before}
 use Rattle.history_core.specs.Registers.{IsReadOf}
-use Rattle.cell_contract.specs.Intervals.{At, begun_at, passed_at, ended_at, InTurn, IsBy, IsLate, HasBegun, IsBeginning, AreFirst, AreHeeded}
+use Rattle.cell_contract.specs.Intervals.{At, begun_at, passed_at, ended_at, InTurn, IsBy, IsLate, HasBegun}
+use Rattle.cell_contract.specs.Intervals.{IsBeginning, AreFirst, AreHeeded}
 use Rattle.cell_contract.specs.Intervals.{IsHeeded, known_as}
 use Rattle.cell_contract.proofs.ListLaws.{all_each, all_snoc}
 use Rattle.cell_contract.specs.declared.times.Times.{Times}

@@ -1,5 +1,6 @@
--- The accesses of a family of registers, each of one writer and one reader, and what each call adds to what its process did (this
--- project's own, over the intervals of L. Lamport, On Interprocess Communication, Parts I and II, Distributed Computing 1, 1986).
+-- The accesses of a family of registers, each of one writer and one reader, and what each call adds to what its
+-- process did (this project's own, over the intervals of L. Lamport, On Interprocess Communication, Parts I and II,
+-- Distributed Computing 1, 1986).
 use Rattle.std.specs.Prelude.{◌≡◌, ◌≢◌, ℕ, ◌-◌, ◌<◌, List, [], ◌∷◌, ◌++◌, length, slice_get, Some}
 use Rattle.cell_contract.specs.declared.times.Times.{Times}
 use Rattle.cell_contract.specs.declared.times.Known.{Known}
@@ -11,8 +12,9 @@ pub record WriteAccesses (T : Type 0) : Type 0 where
   pub items : List T
   pub times : Times
 
--- what a process read from another one, with the number of each answer among the records written, and when; the writes of which it
--- knows; and what it was told, by the record that each receipt names and by all the writes of which it tells
+-- what a process read from another one, with the number of each answer among the records written, and
+-- when; the writes of which it knows; and what it was told, by the record that each receipt names and by
+-- all the writes of which it tells
 pub record ReadAccesses (T : Type 0) : Type 0 where
   pub answers : List T
   pub numbers : List ℕ
@@ -26,8 +28,8 @@ abbrev pub RisesAfter : ℕ → List ℕ → Type 0
 RisesAfter clock [] = Unit {0}
 RisesAfter clock (t ∷ ts) = (clock < t) × RisesAfter t ts
 
--- *An access*: so many steps more, later than all that the process knew of. With the first of them a call begins, and with the last
--- it ends
+-- *An access*: so many steps more, later than all that the process knew of. With the first of them a call
+-- begins, and with the last it ends
 pub record IsAccess (width clock clock' : ℕ) (times times' : List ℕ) (old new : Times) : Type 0 where
   pub steps : List ℕ
   pub long : length steps ≡ width
@@ -56,8 +58,9 @@ module _ {T : Type 0} where
   pub record IsWriteAccess (old new : WriteAccesses T) (item : T) : Type 0 where
     pub items : new.items ≡ old.items ++ item ∷ []
 
-  -- one answer more. It is the record with its number of the writes that the reader knows of; with these all its answers are atomic
-  -- by their intervals. They begin with those of each receipt that it learnt, and the answer is no older than the last of these
+  -- one answer more. It is the record with its number of the writes that the reader knows of; with these all its
+  -- answers are atomic by their intervals. They begin with those of each receipt that it learnt, and the answer is no
+  -- older than the last of these
   pub record IsReadAccess (opening : T) (old new : ReadAccesses T) (answer : T) : Type 0 where
     pub answers : new.answers ≡ old.answers ++ answer ∷ []
     pub numbered : IsNextAnswer opening old.known new.known old.numbers new.numbers new.answers new.times answer

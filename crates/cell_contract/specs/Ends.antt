@@ -15,8 +15,8 @@ module _ {A : Type 0} where
 abbrev pub IsSchedule : ℕ → List ℕ → Type 0
 IsSchedule n steps = (step who : ℕ) → slice_get steps step ≡ Some who → who < n
 
--- *An atomic register*: all calls have ended and are atomic by their intervals, and the writes that the reader knows of are the first
--- of those made
+-- *An atomic register*: all calls have ended and are atomic by their intervals, and the writes that the reader knows
+-- of are the first of those made
 pub record IsAtomicCell {T : Type 0} (opening : T) (writes : WriteAccesses T) (reads : ReadAccesses T) : Type 0 where
   pub atomic : AreAtomic opening writes.items writes.times reads.answers reads.numbers reads.times
   pub ended : HaveEnded writes.times

@@ -1,6 +1,6 @@
--- The calls of a cell as intervals of the table's time, in which each step on a word has a time of its own. Operations as
--- intervals and their precedence are L. Lamport's, On Interprocess Communication, Parts I and II, Distributed Computing 1, 1986;
--- numbers of reads are this project's own.
+-- The calls of a cell as intervals of the table's time, in which each step on a word has a time of its own. Operations
+-- as intervals and their precedence are L. Lamport's, On Interprocess Communication, Parts I and II, Distributed
+-- Computing 1, 1986; numbers of reads are this project's own.
 use Rattle.std.specs.Prelude.{◌≡◌, ℕ, ◌+◌, ◌<◌, ◌≤◌, max, List, [], ◌∷◌, ◌++◌, length, All, slice_get, Some}
 use Rattle.history_core.specs.Registers.{intervals, IsRegular}
 use Rattle.cell_contract.specs.declared.times.Times.{Times}
@@ -80,11 +80,12 @@ IsLate ends time n = (k e : ℕ) → At ends k e → e < time → k < n
 abbrev pub HasBegun : List ℕ → ℕ → ℕ → Type 0
 HasBegun begins time n = (k : ℕ) → n ≡ k + 1 → (b : ℕ) × At begins k b × (b < time)
 
--- *Atomic by intervals*: the register is regular, so each answer has a number, and these numbers never fall. The last write may be under
--- way
-pub record AreAtomic {T : Type 0} (opening : T) (written : List T) (writes : Times) (answers : List T) (numbers : List ℕ)
-    (reads : Times) : Type 0 where
-  pub regular : IsRegular opening written (intervals writes.begins writes.ends) answers numbers (intervals reads.begins reads.ends)
+-- *Atomic by intervals*: the register is regular, so each answer has a number, and these numbers never fall.
+-- The last write may be under way
+pub record AreAtomic {T : Type 0} (opening : T) (written : List T) (writes : Times) (answers : List T)
+    (numbers : List ℕ) (reads : Times) : Type 0 where
+  pub regular : IsRegular opening written (intervals writes.begins writes.ends) answers numbers
+      (intervals reads.begins reads.ends)
   pub rising : (i j a b : ℕ) → At numbers i a → At numbers j b → i ≤ j → a ≤ b
   -- the intervals are those of calls in turn
   pub writes_in_turn : InTurn writes.begins writes.ends
@@ -107,7 +108,8 @@ pub record AreFirst {T : Type 0} (known : Known T) (written : List T) (writes : 
   pub begins : IsBeginning known.times.begins writes.begins
   pub ends : IsBeginning known.times.ends writes.ends
 
--- *Heeded*: the writes known begin with those of which a receipt told, and the answer's number is no less than that of the last of these
+-- *Heeded*: the writes known begin with those of which a receipt told, and the answer's number is no less
+-- than that of the last of these
 pub record IsHeeded {T : Type 0} (told known : Known T) (number : ℕ) : Type 0 where
   pub first : AreFirst told known.items known.times
   pub later : length told.items ≤ number
@@ -116,15 +118,16 @@ pub record IsHeeded {T : Type 0} (told known : Known T) (number : ℕ) : Type 0 
 abbrev pub AreHeeded : {T : Type 0} → List (Known T) → Known T → ℕ → Type 0
 AreHeeded heard known number = All (λ told. IsHeeded told known number) heard
 
--- *No older*: the answer stands in the list of the opening, these records and more, at no earlier place than the last of these
+-- *No older*: the answer stands in the list of the opening, these records and more, at no earlier
+-- place than the last of these
 abbrev pub IsNoOlder : {T : Type 0} → T → List T → T → Type 0
 IsNoOlder {T} opening written answer =
     (more : List T) × (n : ℕ) × (length written ≤ n) × (slice_get (opening ∷ (written ++ more)) n ≡ Some answer)
 
--- *The next answer*: one number more, and the answer is the record with this number of the writes known, where the opening has
--- number 0. What was known is still, and with the writes known all answers are atomic by their intervals
-pub record IsNextAnswer {T : Type 0} (opening : T) (old new : Known T) (before after : List ℕ) (answers : List T) (reads : Times)
-    (answer : T) : Type 0 where
+-- *The next answer*: one number more, and the answer is the record with this number of the writes known, where the
+-- opening has number 0. What was known is still, and with the writes known all answers are atomic by their intervals
+pub record IsNextAnswer {T : Type 0} (opening : T) (old new : Known T) (before after : List ℕ)
+    (answers : List T) (reads : Times) (answer : T) : Type 0 where
   pub number : ℕ
   pub numbers : after ≡ before ++ number ∷ []
   pub source : slice_get (opening ∷ new.items) number ≡ Some answer

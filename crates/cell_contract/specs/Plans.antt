@@ -1,5 +1,7 @@
--- What a process of a family has done, and what it may have done at any moment, also within an access (this project's own).
-use Rattle.std.specs.Prelude.{◌≡◌, ◌≢◌, ℕ, ◌+◌, ◌-◌, ◌<◌, ◌≤◌, List, [], ◌∷◌, ◌++◌, length, slice_get, Option, None, Some}
+-- What a process of a family has done, and what it may have done at any moment, also within an
+-- access (this project's own).
+use Rattle.std.specs.Prelude.{◌≡◌, ◌≢◌, ℕ, ◌+◌, ◌-◌, ◌<◌, ◌≤◌, List, [], ◌∷◌, ◌++◌, length}
+use Rattle.std.specs.Prelude.{slice_get, Option, None, Some}
 use Rattle.history_core.specs.Others.{other}
 use Rattle.history_core.specs.Registers.{intervals, IsRegular}
 use Rattle.history_core.specs.Schedules.{positions}
@@ -39,8 +41,8 @@ module _ {T : Type 0} where
     pub writes : (j : ℕ) → done.writes j ≡ no_accesses
     pub reads : (j : ℕ) → done.reads j ≡ no_accesses
 
-  -- *A write to one process, as far as it has come*: so many of its steps. It has its record from the first of them on, and it ends
-  -- with the last
+  -- *A write to one process, as far as it has come*: so many of its steps. It has its record from the first of them
+  -- on, and it ends with the last
   pub record WritesSoFar (width made : ℕ) (item : T) (to : ℕ) (old new : Doings T) : Type 0 where
     pub steps : List ℕ
     pub long : length steps ≡ made
@@ -79,11 +81,11 @@ module _ {T : Type 0} where
   MayReadEach plan width n i old = (count : ℕ) (now : Doings T) → count + 1 < n →
       OneByOne (ReadsSoFar width width) i old count now → MayRead plan width (other i count) now
 
-  -- *What all processes have done so far*, finished or cut off: their steps are one schedule, what each has done is of the plan, and each
-  -- register between two of them is regular by its intervals. One of them has taken these steps and made these accesses, and its answers
-  -- have the numbers that are known
-  pub record AreSoFar (plan : ℕ → Doings T → Type 0) (opening : T) (n who : ℕ) (times : List ℕ) (writes : ℕ → WriteAccesses T)
-      (reads : ℕ → ReadAccesses T) : Type 0 where
+  -- *What all processes have done so far*, finished or cut off: their steps are one schedule, what each has done is of
+  -- the plan, and each register between two of them is regular by its intervals. One of them has taken these steps and
+  -- made these accesses, and its answers have the numbers that are known
+  pub record AreSoFar (plan : ℕ → Doings T → Type 0) (opening : T) (n who : ℕ) (times : List ℕ)
+      (writes : ℕ → WriteAccesses T) (reads : ℕ → ReadAccesses T) : Type 0 where
     pub steps : List ℕ
     pub done : ℕ → Doings T
     pub schedule : IsSchedule n steps

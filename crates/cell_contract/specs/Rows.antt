@@ -2,23 +2,28 @@
 use Rattle.std.specs.Prelude.{◌≡◌, ℕ, ◌+◌, List}
 use Rattle.history_core.specs.Others.{other}
 use Rattle.cell_contract.specs.Running.{IsAnswer}
-use Rattle.cell_contract.specs.Accesses.{IsAccess, IsReadAccess, IsWriteAccess, KeepsEach, KeepsOthers, ReadAccesses, WriteAccesses}
+use Rattle.cell_contract.specs.Accesses.{IsAccess, IsReadAccess, IsWriteAccess, KeepsEach, KeepsOthers}
+use Rattle.cell_contract.specs.Accesses.{ReadAccesses, WriteAccesses}
 
--- *A write to one process*, by the words of its family: one access and one record more, and each other register as before
-pub record IsWriteTo {S T : Type 0} (is_seat : S → Type 0) (who clock : S → ℕ) (times : S → List ℕ) (writes : S → ℕ → WriteAccesses T)
-    (reads : S → ℕ → ReadAccesses T) (width : ℕ) (item : T) (to : ℕ) (old new : S) : Type 0 where
+-- *A write to one process*, by the words of its family: one access and one record more, and
+-- each other register as before
+pub record IsWriteTo {S T : Type 0} (is_seat : S → Type 0) (who clock : S → ℕ) (times : S → List ℕ)
+    (writes : S → ℕ → WriteAccesses T) (reads : S → ℕ → ReadAccesses T) (width : ℕ) (item : T) (to : ℕ)
+    (old new : S) : Type 0 where
   pub own : is_seat new × (who new ≡ who old)
-  pub access : IsAccess width (clock old) (clock new) (times old) (times new) (writes old to).times (writes new to).times
+  pub access : IsAccess width (clock old) (clock new) (times old) (times new) (writes old to).times
+      (writes new to).times
   pub written : IsWriteAccess (writes old to) (writes new to) item
   pub others : KeepsOthers to (writes old) (writes new) × KeepsEach (reads old) (reads new)
 
--- *A read of one process*, by the words of its family: one access and one answer more, which was seen, and each other register as
--- before. What sees it goes along with the seat
-pub record IsReadFrom {S L T : Type 0} (is_seat : S → Type 0) (who clock : S → ℕ) (times : S → List ℕ) (writes : S → ℕ → WriteAccesses T)
-    (reads : S → ℕ → ReadAccesses T) (width : ℕ) (opening : T) (fits : T → Type 0) (rises : T → T → Type 0) (sees : L → T → L → Type 0)
-    (from : ℕ) (old new : S × L) : Type 0 where
+-- *A read of one process*, by the words of its family: one access and one answer more, which was seen, and each other
+-- register as before. What sees it goes along with the seat
+pub record IsReadFrom {S L T : Type 0} (is_seat : S → Type 0) (who clock : S → ℕ) (times : S → List ℕ)
+    (writes : S → ℕ → WriteAccesses T) (reads : S → ℕ → ReadAccesses T) (width : ℕ) (opening : T) (fits : T → Type 0)
+    (rises : T → T → Type 0) (sees : L → T → L → Type 0) (from : ℕ) (old new : S × L) : Type 0 where
   pub own : is_seat new.0 × (who new.0 ≡ who old.0)
-  pub access : IsAccess width (clock old.0) (clock new.0) (times old.0) (times new.0) (reads old.0 from).times (reads new.0 from).times
+  pub access : IsAccess width (clock old.0) (clock new.0) (times old.0) (times new.0) (reads old.0 from).times
+      (reads new.0 from).times
   pub answer : T
   pub read : IsReadAccess opening (reads old.0 from) (reads new.0 from) answer
   pub may : IsAnswer fits rises opening (reads old.0 from).answers (reads old.0 from).told answer

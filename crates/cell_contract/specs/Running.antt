@@ -1,4 +1,5 @@
--- What a cell's contract says of the records written, the answers and what a pass was told (this project's definitions).
+-- What a cell's contract says of the records written, the answers and what a pass was told
+-- (this project's definitions).
 use Rattle.std.specs.Prelude.{◌≡◌, ◌⊎◌, ℕ, List, [], ◌∷◌, All, map}
 use mathlib.Core.Option.{some}
 use lib.ListN.{get_elem?}
@@ -17,8 +18,8 @@ module _ {T : Type 0} where
   settled_from x rest (a ∷ ys) = ((x ≡ a) × settled_from x rest ys) ⊎ rest (a ∷ ys)
 
   -- *Settled*: the answers stand in the list, at places that never fall. There are no answers; or the list isn't empty,
-  -- and either its first record is the first answer and the others are settled against the same list, or all answers are
-  -- settled against the list without its first record.
+  -- and either its first record is the first answer and the others are settled against the same list, or all answers
+  -- are settled against the list without its first record.
   abbrev pub Settled : List T → List T → Type 0
   Settled [] [] = Unit {0}
   Settled [] (a ∷ ys) = ⊥
@@ -34,10 +35,11 @@ module _ {T : Type 0} (fits : T → Type 0) (rises : T → T → Type 0) where
   Rising x [] = Unit {0}
   Rising x (y ∷ ys) = fits y × rises x y × Rising y ys
 
-  -- *Running cell*: an answer fits, and rises from the opening, from the answer before it, and from every record that the
-  -- pass had been told
+  -- *Running cell*: an answer fits, and rises from the opening, from the answer before it, and from every
+  -- record that the pass had been told
   abbrev pub IsAnswer : T → List T → List T → T → Type 0
-  IsAnswer opening answers told x = fits x × rises opening x × rises (last_or opening answers) x × All (λ t. rises t x) told
+  IsAnswer opening answers told x = fits x × rises opening x × rises (last_or opening answers) x
+      × All (λ t. rises t x) told
 
 -- which cell it is, and the record that it opened with
 pub record Name (T : Type 0) : Type 0 where

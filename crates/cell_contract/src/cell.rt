@@ -3,7 +3,8 @@ ghost use Rattle.std.specs.Prelude.{◌≡◌, ℕ, ◌+◌, ◌≤◌, List, []
 ghost use Rattle.std.specs.Fn.{FnOnceTakesAt, FnOnceReturnsAt};
 ghost use Rattle.cell_contract.specs.Running.{IsAnswer, Settled, last_or};
 ghost use Rattle.cell_contract.specs.CallsSoFar.{AreCallsSoFar};
-ghost use Rattle.cell_contract.specs.Intervals.{AreAtomic, AreFirst, AreHeeded, HaveEnded, IsHeard, IsNextAnswer, IsNextCall};
+ghost use Rattle.cell_contract.specs.Intervals.{AreAtomic, AreFirst, AreHeeded, HaveEnded, IsHeard};
+ghost use Rattle.cell_contract.specs.Intervals.{IsNextAnswer, IsNextCall};
 ghost use Rattle.cell_contract.specs.Intervals.{known_as, no_times, none_known};
 ghost use Rattle.cell_contract.specs.declared.times.Times.{Times};
 ghost use Rattle.cell_contract.specs.declared.times.Known.{Known};
@@ -26,11 +27,11 @@ pub trait Lawful: Copy {
 /// A record that threads can share through a cell.
 pub trait Kept: Lawful + Send + Sync {}
 
-/// The calls of a cell: one writer's pass and one reader's pass share a record through it. No call waits, and only `make`
-/// takes memory.
+/// The calls of a cell: one writer's pass and one reader's pass share a record through it. No call waits,
+/// and only `make` takes memory.
 ///
-/// The lists of records, the counts, the intervals and the numbers are known to contracts alone. The running program has none of them.
-/// A time is the number of a step in the one sequence of the cell's steps, and no time of a clock.
+/// The lists of records, the counts, the intervals and the numbers are known to contracts alone. The running program
+/// has none of them. A time is the number of a step in the one sequence of the cell's steps, and no time of a clock.
 pub trait Calls<T: Lawful>: Sized + Drop {
     /// The right to write.
     type Put: Drop;
@@ -96,8 +97,8 @@ pub trait Calls<T: Lawful>: Sized + Drop {
         ensures own { IfOk result (λ r. (opening r.0 ≡ first) × is_put r.0 r.1 × is_get r.0 r.2) }
         ensures empty { IfOk result (λ r. (written r.1 ≡ []) × (answers r.2 ≡ []) × (told r.2 ≡ [])) }
         ensures unused { IfOk result (λ r. (put_accesses r.1 ≡ 0) × (get_accesses r.2 ≡ 0)) }
-        ensures timeless { IfOk result (λ r. (put_times r.1 ≡ no_times) × (get_times r.2 ≡ no_times) × (numbers r.2 ≡ [])
-            × (known r.2 ≡ none_known)) }
+        ensures timeless { IfOk result (λ r. (put_times r.1 ≡ no_times) × (get_times r.2 ≡ no_times)
+            × (numbers r.2 ≡ []) × (known r.2 ≡ none_known)) }
         ensures unheard { IfOk result (λ r. heard r.2 ≡ []) };
 
     /// Shows the record to the reader.
@@ -118,9 +119,9 @@ pub trait Calls<T: Lawful>: Sized + Drop {
         ensures accesses { put_accesses put.new ≤ put_accesses put.old + 3 }
         ensures timed { IsNextCall (put_times put.old) (put_times put.new) };
 
-    /// Gives one whole record, which by its law may stand after each that this pass saw or was told. It is the opening or one of
-    /// the writes that this pass knows, and the read is atomic by its interval. These writes begin with the real ones of each receipt that
-    /// was learnt, and the record is no older than the last of them.
+    /// Gives one whole record, which by its law may stand after each that this pass saw or was told. It is the opening
+    /// or one of the writes that this pass knows, and the read is atomic by its interval. These writes begin with the
+    /// real ones of each receipt that was learnt, and the record is no older than the last of them.
     fn read(&self, get: &mut Self::Get) -> T
         requires { is_get self.now get.old }
         ensures own { is_get self.now get.new }
@@ -129,10 +130,12 @@ pub trait Calls<T: Lawful>: Sized + Drop {
         ensures running { IsAnswer T.fits T.rises (opening self.now) (answers get.old) (told get.old) result }
         ensures accesses { get_accesses get.new ≤ get_accesses get.old + 3 }
         ensures timed { IsNextCall (get_times get.old) (get_times get.new) }
-        ensures numbered { IsNextAnswer (opening self.now) (known get.old) (known get.new) (numbers get.old) (numbers get.new)
-            (answers get.new) (get_times get.new) result }
-        ensures heeds { (heard get.new ≡ heard get.old) × AreHeeded (heard get.new) (known get.new) (last_or 0 (numbers get.new)) }
-        ensures so_far { AreCallsSoFar T.fits T.rises (opening self.now) (heard get.new) (answers get.new) (get_times get.new) };
+        ensures numbered { IsNextAnswer (opening self.now) (known get.old) (known get.new)
+            (numbers get.old) (numbers get.new) (answers get.new) (get_times get.new) result }
+        ensures heeds { (heard get.new ≡ heard get.old)
+            × AreHeeded (heard get.new) (known get.new) (last_or 0 (numbers get.new)) }
+        ensures so_far { AreCallsSoFar T.fits T.rises (opening self.now) (heard get.new) (answers get.new)
+            (get_times get.new) };
 
     /// Lends the same record where it lies, so that nothing is copied: `look` is called once with it.
     fn read_with<R, F: FnOnce(&T) -> R>(&self, get: &mut Self::Get, look: F) -> R
@@ -142,17 +145,20 @@ pub trait Calls<T: Lawful>: Sized + Drop {
         ensures own { is_get self.now get.new }
         ensures answers { answers get.new ≡ answers get.old ++ at_hand get.new ∷ [] }
         ensures told { told get.new ≡ told get.old }
-        ensures running { IsAnswer T.fits T.rises (opening self.now) (answers get.old) (told get.old) (at_hand get.new) }
+        ensures running { IsAnswer T.fits T.rises (opening self.now) (answers get.old) (told get.old)
+            (at_hand get.new) }
         ensures accesses { get_accesses get.new ≤ get_accesses get.old + 3 }
         ensures timed { IsNextCall (get_times get.old) (get_times get.new) }
-        ensures numbered { IsNextAnswer (opening self.now) (known get.old) (known get.new) (numbers get.old) (numbers get.new)
-            (answers get.new) (get_times get.new) (at_hand get.new) }
-        ensures heeds { (heard get.new ≡ heard get.old) × AreHeeded (heard get.new) (known get.new) (last_or 0 (numbers get.new)) }
-        ensures so_far { AreCallsSoFar T.fits T.rises (opening self.now) (heard get.new) (answers get.new) (get_times get.new) }
+        ensures numbered { IsNextAnswer (opening self.now) (known get.old) (known get.new)
+            (numbers get.old) (numbers get.new) (answers get.new) (get_times get.new) (at_hand get.new) }
+        ensures heeds { (heard get.new ≡ heard get.old)
+            × AreHeeded (heard get.new) (known get.new) (last_or 0 (numbers get.new)) }
+        ensures so_far { AreCallsSoFar T.fits T.rises (opening self.now) (heard get.new) (answers get.new)
+            (get_times get.new) }
         ensures looked { FnOnceReturnsAt F.FnOnce look (at_hand get.new) result };
 
-    /// Gives a receipt for the record that was written last, which carries all the writes: once it is learnt, each answer may stand after
-    /// that record by its law, and is that record or was written after it.
+    /// Gives a receipt for the record that was written last, which carries all the writes: once it is learnt, each
+    /// answer may stand after that record by its law, and is that record or was written after it.
     fn tell(&self, put: &mut Self::Put) -> Self::Receipt
         requires { is_put self.now put.old }
         ensures own { is_put self.now put.new × is_receipt self.now result }
@@ -171,12 +177,13 @@ pub trait Calls<T: Lawful>: Sized + Drop {
         ensures numbers { (numbers get.new ≡ numbers get.old) × (known get.new ≡ known get.old) }
         ensures heard { heard get.new ≡ heard get.old ++ writes_of receipt ∷ [] };
 
-    /// Ends the cell. Only here do the two lists meet: each answer is the opening or a whole written record, in their order, and
-    /// all calls are atomic by their intervals.
+    /// Ends the cell. Only here do the two lists meet: each answer is the opening or a whole written record, in their
+    /// order, and all calls are atomic by their intervals.
     fn finish(self, put: Self::Put, get: Self::Get)
         requires { is_put self put × is_get self get }
         ensures settled { Settled (opening self ∷ written put) (answers get) }
-        ensures atomic { AreAtomic (opening self) (written put) (put_times put) (answers get) (numbers get) (get_times get) }
+        ensures atomic { AreAtomic (opening self) (written put) (put_times put) (answers get)
+            (numbers get) (get_times get) }
         ensures ended { HaveEnded (put_times put) }
         ensures known { AreFirst (known get) (written put) (put_times put) };
 }

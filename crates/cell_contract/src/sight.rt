@@ -1,5 +1,5 @@
-//! What the seats of a cell know, over the notes of the writer and those of the reader. No value of these types is made. A
-//! record stands in them as a snapshot, since the size of a view's type must be known.
+//! What the seats of a cell know, over the notes of the writer and those of the reader. No value of these types is
+//! made. A record stands in them as a snapshot, since the size of a view's type must be known.
 ghost use Rattle.cell_contract.specs.Sights.{writer_part, reader_part};
 
 use atomic_table::Split;

@@ -4,8 +4,8 @@ ghost use base.Fml.{ftrue};
 
 use std::marker::{Model, PhantomData};
 
-/// A `T` as clauses see it, without its bytes: what a pass keeps of its cell's opening. It is what the kit calls a `Snapshot`, but of a
-/// struct with a seat and a `Snapshot` the check doesn't find that it may cross threads.
+/// A `T` as clauses see it, without its bytes: what a pass keeps of its cell's opening. It is what the kit calls a
+/// `Snapshot`, but of a struct with a seat and a `Snapshot` the check doesn't find that it may cross threads.
 pub struct Spare<T> {
     marker: PhantomData<T>,
     pub ghost value: { T },

@@ -1,4 +1,5 @@
-//! The calls of a pass in the time of their table, and what a reader and a receipt know of them. No value of these types is made.
+//! The calls of a pass in the time of their table, and what a reader and a receipt know of them. No
+//! value of these types is made.
 use std::collections::LinkedList;
 
 /// The calls made with a pass: when each began and when it ended, and the last time of which the pass knows.

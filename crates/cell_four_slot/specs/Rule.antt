@@ -1,7 +1,8 @@
--- The rule of the running four-slot cell: word 0 is `latest`, word 1 `reading`, words 2 and 3 are the bits of the pairs, and
--- a slot has the number 2 * pair + index. Its states are those of the register of H. Simpson, Four-slot fully
--- asynchronous communication mechanism, IEE Proceedings E, 1990.
-use Rattle.std.specs.Prelude.{◌≡◌, ◌≢◌, ℕ, suc, ◌+◌, ◌-◌, ◌<◌, ◌≤◌, Bool, Some, List, [], ◌∷◌, length, take, All, slice_get}
+-- The rule of the running four-slot cell: word 0 is `latest`, word 1 `reading`, words 2 and 3 are the bits of the
+-- pairs, and a slot has the number 2 * pair + index. Its states are those of the register of H. Simpson, Four-slot
+-- fully asynchronous communication mechanism, IEE Proceedings E, 1990.
+use Rattle.std.specs.Prelude.{◌≡◌, ◌≢◌, ℕ, suc, ◌+◌, ◌-◌, ◌<◌, ◌≤◌, Bool, Some, List, []}
+use Rattle.std.specs.Prelude.{◌∷◌, length, take, All, slice_get}
 use Rattle.std.specs.Prelude.{if◌then◌else◌}
 use mathlib.Core.Option.{some, Option as Opt}
 use lib.ListN.{get_elem?}
@@ -27,14 +28,14 @@ use Rattle.cell_four_slot.specs.declared.notes.ReaderNotes.{ReaderNotes}
 use Rattle.cell_four_slot.specs.Steps.{FourSlotSight}
 use Rattle.cell_contract.specs.declared.sight.Sight.TheVariants.{Spent, Told, Writer, Reader, Both}
 
--- the number of the last of the writes n + 1, n + 2, .. with the slot k, where the slots of these writes are given; `best`
--- where there is none
+-- the number of the last of the writes n + 1, n + 2, .. with the slot k, where the slots of these writes are
+-- given; `best` where there is none
 abbrev pub number_from : ℕ → ℕ → List Slot → Slot → ℕ
 number_from best n [] k = best
 number_from best n (j ∷ js) k = number_from (if same_slot k j then n + 1 else best) (n + 1) js k
 
--- The writes are numbered 1, 2, .. in their order, and the opening has number 0. The number of a slot's record is that of
--- the last write with the slot.
+-- The writes are numbered 1, 2, .. in their order, and the opening has number 0. The number of a slot's record is that
+-- of the last write with the slot.
 abbrev pub number_in : List Slot → Slot → ℕ
 number_in slots k = number_from 0 0 slots k
 
@@ -79,14 +80,16 @@ module _ {T : Type 0} where
   -- The words and the slots show this state: words 0 to 3 are its bits, and its slots have the home values or what the
   -- holder's view says.
   pub record InTable (words : List ℕ) (homes : List (Opt T)) (at_hand : T) (c : Core T) : Type 0 where
-    pub words_are : words ≡ bit_number c.latest ∷ bit_number c.reading ∷ bit_number c.slot.zero ∷ bit_number c.slot.one ∷ []
+    pub words_are : words ≡ bit_number c.latest ∷ bit_number c.reading ∷ bit_number c.slot.zero
+        ∷ bit_number c.slot.one ∷ []
     pub four : length homes ≡ 4
     pub home : (k : Slot) → (HeldByWriter c k → ⊥) → (HeldByReader c k → ⊥) →
         get_elem? homes (slot_number k) ≡ some (some (record_in c.records k))
     pub in_writer : HasSlot c.writer → record_in c.records c.write ≡ c.item
     pub in_reader : (k : Slot) → HeldByReader c k → record_in c.records k ≡ at_hand
 
-  -- The views show this state: the writer's stage, slot, item, remembered bits and last pair, the reader's stage, slot and choice.
+  -- The views show this state: the writer's stage, slot, item, remembered bits and last pair, the
+  -- reader's stage, slot and choice.
   pub record InViews (p : WriterNotes T) (g : ReaderNotes T) (c : Core T) : Type 0 where
     pub writer_at : c.writer ≡ p.stage
     pub write_is : c.write ≡ p.slot
@@ -111,17 +114,20 @@ module _ {T : Type 0} where
     pub newest : number_in slots c.write ≡ length written
     pub older : (k : Slot) → k ≢ c.write → 0 < length written → number_in slots k < length written
     pub finished : get_elem? (o ∷ written) (finished_number c.writer (length written)) ≡ some last
-    pub latest : (IsStored c.writer → c.write.pair ≢ c.latest) → number_in slots (latest_slot c) ≡ finished_number c.writer (length written)
+    pub latest : (IsStored c.writer → c.write.pair ≢ c.latest) →
+        number_in slots (latest_slot c) ≡ finished_number c.writer (length written)
 
   -- The answers are settled against the written list up to the record in the slot that `latest` and its bit name and,
   -- between R1 and R3, up to that in the slot that the reader's pair and its bit name. What was told stands as far.
-  pub record IsSettled (o : T) (written : List T) (slots : List Slot) (answers told : List T) (c : Core T) : Type 0 where
+  pub record IsSettled (o : T) (written : List T) (slots : List Slot) (answers told : List T)
+      (c : Core T) : Type 0 where
     pub to_latest : UpTo o written answers told (number_in slots (latest_slot c))
     pub to_pair : IsBegun c.reader → UpTo o written answers told (number_in slots (named_slot c c.read.pair))
 
-  -- The calls in the table's time, of which `now` is the last. `shown` is the number of the record in the slot that `latest` and its
-  -- bit name, and `pair` that of the record in the slot that the reader's pair and its bit name.
-  pub record IsTimed (o : T) (p : WriterNotes T) (g : ReaderNotes T) (now : ℕ) (w : Stage) (r : ReaderStage) (shown pair : ℕ) : Type 0 where
+  -- The calls in the table's time, of which `now` is the last. `shown` is the number of the record in the slot that
+  -- `latest` and its bit name, and `pair` that of the record in the slot that the reader's pair and its bit name.
+  pub record IsTimed (o : T) (p : WriterNotes T) (g : ReaderNotes T) (now : ℕ) (w : Stage) (r : ReaderStage)
+      (shown pair : ℕ) : Type 0 where
     -- no pass knows of a later time
     pub put_clock : p.times.clock ≤ now
     pub get_clock : g.times.clock ≤ now
@@ -129,15 +135,17 @@ module _ {T : Type 0} where
     pub get_by : IsBy g.times
     pub put_turn : InTurn p.times.begins p.times.ends
     pub get_turn : InTurn g.times.begins g.times.ends
-    -- each write has its beginning and, once it is finished, its end; and so has each read, and once it has ended its number
+    -- each write has its beginning and, once it is finished, its end; and so has each read, and
+    -- once it has ended its number
     pub begun_writes : length p.times.begins ≡ length p.written
     pub ended_writes : length p.times.ends ≡ finished_number w (length p.written)
     pub begun_reads : length g.times.begins ≡ begun_number r (length g.answers)
     pub ended_reads : length g.times.ends ≡ length g.answers
     pub numbered : length g.numbers ≡ length g.answers
-    -- an answer is the record with its number; no write that ended before the read began has a greater number; and the write with
-    -- the number began before the read ended
-    pub source : (m n : ℕ) (x : T) → At g.numbers m n → slice_get g.answers m ≡ Some x → slice_get (o ∷ p.written) n ≡ Some x
+    -- an answer is the record with its number; no write that ended before the read began has a greater number; and the
+    -- write with the number began before the read ended
+    pub source : (m n : ℕ) (x : T) → At g.numbers m n → slice_get g.answers m ≡ Some x →
+        slice_get (o ∷ p.written) n ≡ Some x
     pub late : (m n b : ℕ) → At g.numbers m n → At g.times.begins m b → IsLate p.times.ends b n
     pub begun : (m n e : ℕ) → At g.numbers m n → At g.times.ends m e → HasBegun p.times.begins e n
     -- the numbers never fall, up to what the next read can have
@@ -179,8 +187,10 @@ module _ {T : Type 0} where
     pub writes : p.accesses ≤ control_writes p.events
     pub reads : g.accesses ≤ control_reads g.events
 
--- The rule. `o` is the opening. It stands for the noise too; no running read meets a write (`sound`), so none is answered by it as noise.
-pub record FourSlotRule {T : Type 0} (fits : T → Type 0) (rises : T → T → Type 0) (o : T) (s : State T (FourSlotSight T)) : Type 0 where
+-- The rule. `o` is the opening. It stands for the noise too; no running read meets a write (`sound`), so
+-- none is answered by it as noise.
+pub record FourSlotRule {T : Type 0} (fits : T → Type 0) (rises : T → T → Type 0) (o : T)
+    (s : State T (FourSlotSight T)) : Type 0 where
   pub put : WriterNotes T
   pub get : ReaderNotes T
   pub writer : ℕ

@@ -1,5 +1,6 @@
 -- The steps of the running four-slot cell: what each tells its seat (this project's own).
-use Rattle.std.specs.Prelude.{◌≡◌, ◌≢◌, ℕ, ◌+◌, ◌<◌, ◌≤◌, max, Bool, false, not, Option, None, Some, List, [], ◌∷◌, ◌++◌}
+use Rattle.std.specs.Prelude.{◌≡◌, ◌≢◌, ℕ, ◌+◌, ◌<◌, ◌≤◌, max, Bool, false, not, Option}
+use Rattle.std.specs.Prelude.{None, Some, List, [], ◌∷◌, ◌++◌}
 use Rattle.atomic_table.specs.Table.{Me, Step}
 use Rattle.four_slot_core.specs.declared.state.Sides.{Sides}
 use Rattle.four_slot_core.specs.declared.state.Slot.{Slot}
@@ -9,7 +10,8 @@ use Rattle.four_slot_core.specs.declared.event.WriteEvent.TheVariants.{W1, W2, W
 use Rattle.four_slot_core.specs.declared.event.ReadEvent.TheVariants.{R1, R2, R3, R4, R5}
 use Rattle.four_slot_core.specs.Events.{side, with_side, slot_with, bit_number, slot_number, both}
 use Rattle.cell_contract.specs.Running.{IsAnswer, Rising, snap}
-use Rattle.cell_contract.specs.Intervals.{begun_at, passed_at, ended_at, heard_at, no_times, none_known, dated_at, known_as, AreHeeded}
+use Rattle.cell_contract.specs.Intervals.{begun_at, passed_at, ended_at, heard_at, no_times, none_known}
+use Rattle.cell_contract.specs.Intervals.{dated_at, known_as, AreHeeded}
 use Rattle.cell_contract.specs.Intervals.{IsNextAnswer}
 use Rattle.cell_contract.specs.declared.times.Dated.{Dated}
 use Rattle.cell_contract.specs.declared.times.Known.{Known}
@@ -55,8 +57,8 @@ module _ {T : Type 0} where
       → (b : Bool) × (y : T) × (n ≡ bit_number b) × (t : ℕ) × (p.times.clock < t) × (m'.0 ≡ Writer (begun_with p b x t))
       × (m'.1 ≡ (slot_number (begun_with p b x t).slot, y) ∷ [])
 
-  -- W4: the store of the index in the pair's bit, with which the seat gives its slot back. Of a plain store nothing else is
-  -- found than what it stores, which no exchange of the word could say.
+  -- W4: the store of the index in the pair's bit, with which the seat gives its slot back. Of a plain store nothing
+  -- else is found than what it stores, which no exchange of the word could say.
   abbrev pub stored_by : WriterNotes T → ℕ → WriterNotes T
   stored_by p t = record p {
     stage = writer.W4;
@@ -137,7 +139,8 @@ module _ {T : Type 0} where
   abbrev pub said_by : ReaderNotes T → ℕ → ReaderNotes T
   said_by g t = said_with g 1 t
 
-  -- R1; and R2 too, at the same load and counted as so many accesses, where `reading` has the pair already: the store would change nothing
+  -- R1; and R2 too, at the same load and counted as so many accesses, where `reading` has the pair already:
+  -- the store would change nothing
   abbrev pub asks_counting : ℕ → Step T → Sat T → ℕ → Sat T → Type 0
   asks_counting i st m n m' = (g : ReaderNotes T) → m.0 ≡ Reader g → m.1 ≡ slot_of_choice g.chosen g.at_hand.value →
       (b : Bool) × (n ≡ bit_number b) × (t : ℕ) × (g.times.clock < t)
@@ -184,8 +187,8 @@ module _ {T : Type 0} where
   abbrev pub HasAnswered : ReaderNotes T → ReaderNotes T → T → Type 0
   HasAnswered g h x = IsNextAnswer g.opening.value g.known h.known g.numbers h.numbers h.answers h.times x
 
-  -- the load of the pair's bit, with which the seat takes the slot. What it has is the answer, which heeds each receipt that was learnt.
-  -- The writes shown are all that the writer has begun, and they obey the law
+  -- the load of the pair's bit, with which the seat takes the slot. What it has is the answer, which heeds each receipt
+  -- that was learnt. The writes shown are all that the writer has begun, and they obey the law
   abbrev pub takes : (T → Type 0) → (T → T → Type 0) → Step T → Sat T → ℕ → Sat T → Type 0
   takes fits rises st m n m' = (g : ReaderNotes T) → m.0 ≡ Reader g
       → (b : Bool) × (x : T) × (n ≡ bit_number b) × (t : ℕ) × (k : ℕ) × (writes : Known T) × (g.times.clock < t)
@@ -239,7 +242,8 @@ module _ {T : Type 0} where
   receipt_for v = Spent
 
   abbrev pub heard_by : ReaderNotes T → Dated T → ReaderNotes T
-  heard_by g x = record g { told = g.told ++ x.item ∷ []; times = heard_at g.times x.time; heard = g.heard ++ x.writes ∷ [] }
+  heard_by g x =
+      record g { told = g.told ++ x.item ∷ []; times = heard_at g.times x.time; heard = g.heard ++ x.writes ∷ [] }
 
   abbrev pub hears_of : FourSlotSight T → FourSlotSight T → FourSlotSight T
   hears_of (Reader g) (Told x) = Reader (heard_by g x.value)

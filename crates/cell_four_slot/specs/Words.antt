@@ -61,8 +61,8 @@ module _ {T : Type 0} where
   abbrev pub writes_of : FourSlotReceipt T → Known T
   writes_of t = (receipt_or (dated t.spare.value) t.seat.inner.me.0).writes
 
-  -- the calls made with a pass, in the table's time; the numbers of the answers; the writes of which a reader knows; and those of which
-  -- receipts told it
+  -- the calls made with a pass, in the table's time; the numbers of the answers; the writes of which a reader knows;
+  -- and those of which receipts told it
   abbrev pub put_times : FourSlotPut T → Times
   put_times p = (put_notes p).times
 
@@ -91,7 +91,8 @@ module _ {T : Type 0} where
   abbrev pub reader_accesses : FourSlotGet T → ℕ
   reader_accesses g = (get_notes g).accesses
 
-  -- the pair that a reader's pass has stored in `reading`, 2 where it has stored none; and the one that a writer's has stored in `latest`
+  -- the pair that a reader's pass has stored in `reading`, 2 where it has stored none; and the one that a
+  -- writer's has stored in `latest`
   abbrev pub pair_said : FourSlotGet T → ℕ
   pair_said g = word_said (get_notes g).chosen
 
@@ -109,9 +110,10 @@ module _ {T : Type 0} where
   abbrev pub at_hand_of : FourSlotGet T → T
   at_hand_of g = (get_notes g).at_hand.value
 
-  -- what the control accesses of a read make of its pass: the slot is taken, and what it has is the answer. There are two where `reading`
-  -- has the pair already, as R2 then stores nothing, and else three
-  pub record HasChosen (fits : T → Type 0) (rises : T → T → Type 0) (c : FourSlotCell T) (g h : FourSlotGet T) (slot : ℕ) : Type 0 where
+  -- what the control accesses of a read make of its pass: the slot is taken, and what it has is the answer. There are
+  -- two where `reading` has the pair already, as R2 then stores nothing, and else three
+  pub record HasChosen (fits : T → Type 0) (rises : T → T → Type 0) (c : FourSlotCell T) (g h : FourSlotGet T)
+      (slot : ℕ) : Type 0 where
     pub own : is_get_of c h
     pub answers : answers_of h ≡ answers_of g ++ at_hand_of h ∷ []
     pub told : told_to h ≡ told_to g

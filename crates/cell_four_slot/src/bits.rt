@@ -1,4 +1,5 @@
-//! The bits of a four-slot cell, as its words have them: 0 or 1. What a bit selects is found by its number and not by a branch.
+//! The bits of a four-slot cell, as its words have them: 0 or 1. What a bit selects is found by
+//! its number and not by a branch.
 ghost use Rattle.std.specs.Prelude.{◌≡◌, ◌+◌, Bool, not};
 ghost use Rattle.four_slot_core.specs.declared.state.Sides.{Sides};
 ghost use Rattle.four_slot_core.specs.Events.{side, with_side, slot_with, bit_number, slot_number};
@@ -16,7 +17,8 @@ pub fn other_bit(bit: u64) -> u64
 #[inline]
 pub fn bit_of(bits: &[u64; 2], pair: u64) -> u64
     requires { (s : Sides Bool) × (p : Bool) × (bit_words s ≡ bits.now) × (pair ≡ bit_number p) }
-    ensures { (s : Sides Bool) (p : Bool) → bit_words s ≡ bits.now → pair ≡ bit_number p → result ≡ bit_number (side s p) }
+    ensures { (s : Sides Bool) (p : Bool) → bit_words s ≡ bits.now → pair ≡ bit_number p →
+        result ≡ bit_number (side s p) }
 {
     bits[pair as usize]
 }

@@ -4,13 +4,17 @@ ghost use Rattle.std.specs.Fn.{FnOnceTakesAt, FnOnceReturnsAt};
 ghost use Rattle.four_slot_core.specs.declared.event.WriteEvent.TheVariants.{W1, W2, W3, W4, W5};
 ghost use Rattle.four_slot_core.specs.declared.event.ReadEvent.TheVariants.{R1, R2, R3, R4, R5};
 ghost use Rattle.cell_contract.specs.Running.{last_or, IsAnswer, Settled, snap};
-ghost use Rattle.cell_contract.specs.Intervals.{AreAtomic, AreFirst, AreHeeded, HaveEnded, IsHeard, IsNextAnswer, IsNextCall};
+ghost use Rattle.cell_contract.specs.Intervals.{AreAtomic, AreFirst, AreHeeded, HaveEnded, IsHeard};
+ghost use Rattle.cell_contract.specs.Intervals.{IsNextAnswer, IsNextCall};
 ghost use Rattle.cell_contract.specs.Intervals.{known_as, no_times, none_known};
 ghost use Rattle.cell_contract.specs.CallsSoFar.{AreCallsSoFar};
-ghost use Rattle.cell_four_slot.specs.Words.{opening_of, is_put_of, is_get_of, is_receipt_of, written_by, answers_of, at_hand_of};
-ghost use Rattle.cell_four_slot.specs.Words.{told_to, named_by, write_events, read_events, writer_accesses, reader_accesses};
+ghost use Rattle.cell_four_slot.specs.Words.{opening_of, is_put_of, is_get_of, is_receipt_of};
+ghost use Rattle.cell_four_slot.specs.Words.{written_by, answers_of, at_hand_of};
+ghost use Rattle.cell_four_slot.specs.Words.{told_to, named_by, write_events, read_events};
+ghost use Rattle.cell_four_slot.specs.Words.{writer_accesses, reader_accesses};
 ghost use Rattle.cell_four_slot.specs.Words.{pair_said, pair_shown};
-ghost use Rattle.cell_four_slot.specs.Words.{chosen_slot, held_by, HasChosen, put_times, get_times, numbers_of, known_to, time_of};
+ghost use Rattle.cell_four_slot.specs.Words.{chosen_slot, held_by, HasChosen, put_times, get_times};
+ghost use Rattle.cell_four_slot.specs.Words.{numbers_of, known_to, time_of};
 ghost use Rattle.cell_four_slot.specs.Words.{heard_by, writes_of};
 
 use crate::bits::{bit_of, other_bit, set_bit, slot_of, word_of};
@@ -45,8 +49,8 @@ impl<T: Lawful> FourSlotCell<T> {
         ensures empty { IfOk result (λ r. (written_by r.1 ≡ []) × (answers_of r.2 ≡ []) × (told_to r.2 ≡ [])) }
         ensures unused { IfOk result (λ r. (writer_accesses r.1 ≡ 0) × (reader_accesses r.2 ≡ 0)) }
         ensures events { IfOk result (λ r. (write_events r.1 ≡ []) × (read_events r.2 ≡ [])) }
-        ensures timeless { IfOk result (λ r. (put_times r.1 ≡ no_times) × (get_times r.2 ≡ no_times) × (numbers_of r.2 ≡ [])
-            × (known_to r.2 ≡ none_known)) }
+        ensures timeless { IfOk result (λ r. (put_times r.1 ≡ no_times) × (get_times r.2 ≡ no_times)
+            × (numbers_of r.2 ≡ []) × (known_to r.2 ≡ none_known)) }
         ensures unheard { IfOk result (λ r. heard_by r.2 ≡ []) }
     {
         let (table, mut put) = FourSlotTable::new(alloc, first)?;
@@ -73,14 +77,18 @@ impl<T: Lawful> FourSlotCell<T> {
     #[inline]
     pub fn write_laid<L: Lays<T>>(&self, put: &mut FourSlotPut<T>, parts: &L)
         requires own { is_put_of self.now put.old }
-        requires lawful { T.fits (L.whole parts.now) × T.rises (last_or (opening_of self.now) (written_by put.old)) (L.whole parts.now) }
+        requires lawful { T.fits (L.whole parts.now)
+            × T.rises (last_or (opening_of self.now) (written_by put.old)) (L.whole parts.now) }
         ensures own { is_put_of self.now put.new }
         ensures written { written_by put.new ≡ written_by put.old ++ L.whole parts.now ∷ [] }
         ensures accesses { writer_accesses put.new ≤ writer_accesses put.old + 3 }
         // Two accesses where `latest` has the pair already, as W5 then stores nothing; else three.
-        ensures quiet { pair_shown put.new ≡ pair_shown put.old → writer_accesses put.new ≡ writer_accesses put.old + 2 }
-        ensures moved { pair_shown put.new ≢ pair_shown put.old → writer_accesses put.new ≡ writer_accesses put.old + 3 }
-        ensures events { write_events put.new ≡ write_events put.old ++ W1 (snap (L.whole parts.now)) ∷ W2 ∷ W3 ∷ W4 ∷ W5 ∷ [] }
+        ensures quiet { pair_shown put.new ≡ pair_shown put.old →
+            writer_accesses put.new ≡ writer_accesses put.old + 2 }
+        ensures moved { pair_shown put.new ≢ pair_shown put.old →
+            writer_accesses put.new ≡ writer_accesses put.old + 3 }
+        ensures events { write_events put.new ≡ write_events put.old ++ W1 (snap (L.whole parts.now)) ∷ W2
+            ∷ W3 ∷ W4 ∷ W5 ∷ [] }
         ensures timed { IsNextCall (put_times put.old) (put_times put.new) }
     {
         let table = &self.table;
@@ -146,8 +154,8 @@ impl<T: Lawful> Calls<T> for FourSlotCell<T> {
         ensures empty { IfOk result (λ r. (written_by r.1 ≡ []) × (answers_of r.2 ≡ []) × (told_to r.2 ≡ [])) }
         ensures unused { IfOk result (λ r. (writer_accesses r.1 ≡ 0) × (reader_accesses r.2 ≡ 0)) }
         ensures events { IfOk result (λ r. (write_events r.1 ≡ []) × (read_events r.2 ≡ [])) }
-        ensures timeless { IfOk result (λ r. (put_times r.1 ≡ no_times) × (get_times r.2 ≡ no_times) × (numbers_of r.2 ≡ [])
-            × (known_to r.2 ≡ none_known)) }
+        ensures timeless { IfOk result (λ r. (put_times r.1 ≡ no_times) × (get_times r.2 ≡ no_times)
+            × (numbers_of r.2 ≡ []) × (known_to r.2 ≡ none_known)) }
         ensures unheard { IfOk result (λ r. heard_by r.2 ≡ []) }
     {
         FourSlotCell::make_from(alloc, &first)
@@ -160,8 +168,10 @@ impl<T: Lawful> Calls<T> for FourSlotCell<T> {
         ensures own { is_put_of self.now put.new }
         ensures written { written_by put.new ≡ written_by put.old ++ item ∷ [] }
         ensures accesses { writer_accesses put.new ≤ writer_accesses put.old + 3 }
-        ensures quiet { pair_shown put.new ≡ pair_shown put.old → writer_accesses put.new ≡ writer_accesses put.old + 2 }
-        ensures moved { pair_shown put.new ≢ pair_shown put.old → writer_accesses put.new ≡ writer_accesses put.old + 3 }
+        ensures quiet { pair_shown put.new ≡ pair_shown put.old →
+            writer_accesses put.new ≡ writer_accesses put.old + 2 }
+        ensures moved { pair_shown put.new ≢ pair_shown put.old →
+            writer_accesses put.new ≡ writer_accesses put.old + 3 }
         ensures events { write_events put.new ≡ write_events put.old ++ W1 (snap item) ∷ W2 ∷ W3 ∷ W4 ∷ W5 ∷ [] }
         ensures timed { IsNextCall (put_times put.old) (put_times put.new) }
     {
@@ -175,8 +185,10 @@ impl<T: Lawful> Calls<T> for FourSlotCell<T> {
         ensures own { is_put_of self.now put.new }
         ensures written { written_by put.new ≡ written_by put.old ++ item.now ∷ [] }
         ensures accesses { writer_accesses put.new ≤ writer_accesses put.old + 3 }
-        ensures quiet { pair_shown put.new ≡ pair_shown put.old → writer_accesses put.new ≡ writer_accesses put.old + 2 }
-        ensures moved { pair_shown put.new ≢ pair_shown put.old → writer_accesses put.new ≡ writer_accesses put.old + 3 }
+        ensures quiet { pair_shown put.new ≡ pair_shown put.old →
+            writer_accesses put.new ≡ writer_accesses put.old + 2 }
+        ensures moved { pair_shown put.new ≢ pair_shown put.old →
+            writer_accesses put.new ≡ writer_accesses put.old + 3 }
         ensures events { write_events put.new ≡ write_events put.old ++ W1 (snap item.now) ∷ W2 ∷ W3 ∷ W4 ∷ W5 ∷ [] }
         ensures timed { IsNextCall (put_times put.old) (put_times put.new) }
     {
@@ -191,7 +203,8 @@ impl<T: Lawful> Calls<T> for FourSlotCell<T> {
         ensures told { told_to get.new ≡ told_to get.old }
         ensures running { IsAnswer T.fits T.rises (opening_of self.now) (answers_of get.old) (told_to get.old) result }
         ensures accesses { reader_accesses get.new ≤ reader_accesses get.old + 3 }
-        // Two accesses where `reading` has the pair already, as R2 then stores nothing; else three, as at the first read.
+        // Two accesses where `reading` has the pair already, as R2 then stores nothing; else
+        // three, as at the first read.
         ensures quiet { pair_said get.new ≡ pair_said get.old → reader_accesses get.new ≡ reader_accesses get.old + 2 }
         ensures moved { pair_said get.new ≢ pair_said get.old → reader_accesses get.new ≡ reader_accesses get.old + 3 }
         ensures events { read_events get.new ≡ read_events get.old ++ R1 ∷ R2 ∷ R3 ∷ R4 ∷ R5 (snap result) ∷ [] }
@@ -203,7 +216,8 @@ impl<T: Lawful> Calls<T> for FourSlotCell<T> {
             (answers_of get.new) (get_times get.new) result }
         ensures heeds { (heard_by get.new ≡ heard_by get.old)
             × AreHeeded (heard_by get.new) (known_to get.new) (last_or 0 (numbers_of get.new)) }
-        ensures so_far { AreCallsSoFar T.fits T.rises (opening_of self.now) (heard_by get.new) (answers_of get.new) (get_times get.new) }
+        ensures so_far { AreCallsSoFar T.fits T.rises (opening_of self.now) (heard_by get.new) (answers_of get.new)
+            (get_times get.new) }
     {
         let slot = choose(self, get);
         self.table.copy(&mut get.seat, slot)
@@ -212,16 +226,19 @@ impl<T: Lawful> Calls<T> for FourSlotCell<T> {
     #[inline]
     fn read_with<R, F: FnOnce(&T) -> R>(&self, get: &mut FourSlotGet<T>, look: F) -> R
         requires own { is_get_of self.now get.old }
-        requires callable { (x : T) → IsAnswer T.fits T.rises (opening_of self.now) (answers_of get.old) (told_to get.old) x →
+        requires callable { (x : T) →
+            IsAnswer T.fits T.rises (opening_of self.now) (answers_of get.old) (told_to get.old) x →
             FnOnceTakesAt F.FnOnce look x }
         ensures own { is_get_of self.now get.new }
         ensures answers { answers_of get.new ≡ answers_of get.old ++ at_hand_of get.new ∷ [] }
         ensures told { told_to get.new ≡ told_to get.old }
-        ensures running { IsAnswer T.fits T.rises (opening_of self.now) (answers_of get.old) (told_to get.old) (at_hand_of get.new) }
+        ensures running { IsAnswer T.fits T.rises (opening_of self.now) (answers_of get.old) (told_to get.old)
+            (at_hand_of get.new) }
         ensures accesses { reader_accesses get.new ≤ reader_accesses get.old + 3 }
         ensures quiet { pair_said get.new ≡ pair_said get.old → reader_accesses get.new ≡ reader_accesses get.old + 2 }
         ensures moved { pair_said get.new ≢ pair_said get.old → reader_accesses get.new ≡ reader_accesses get.old + 3 }
-        ensures events { read_events get.new ≡ read_events get.old ++ R1 ∷ R2 ∷ R3 ∷ R4 ∷ R5 (snap (at_hand_of get.new)) ∷ [] }
+        ensures events { read_events get.new ≡ read_events get.old ++ R1 ∷ R2 ∷ R3 ∷ R4
+            ∷ R5 (snap (at_hand_of get.new)) ∷ [] }
         ensures held { held_by get.new ≡ (chosen_slot get.new, at_hand_of get.new) ∷ [] }
         ensures timed { IsNextCall (get_times get.old) (get_times get.new) }
         ensures numbered { IsNextAnswer (opening_of self.now) (known_to get.old)
@@ -229,7 +246,8 @@ impl<T: Lawful> Calls<T> for FourSlotCell<T> {
             (answers_of get.new) (get_times get.new) (at_hand_of get.new) }
         ensures heeds { (heard_by get.new ≡ heard_by get.old)
             × AreHeeded (heard_by get.new) (known_to get.new) (last_or 0 (numbers_of get.new)) }
-        ensures so_far { AreCallsSoFar T.fits T.rises (opening_of self.now) (heard_by get.new) (answers_of get.new) (get_times get.new) }
+        ensures so_far { AreCallsSoFar T.fits T.rises (opening_of self.now) (heard_by get.new) (answers_of get.new)
+            (get_times get.new) }
         ensures looked { FnOnceReturnsAt F.FnOnce look (at_hand_of get.new) result }
     {
         let slot = choose(self, get);
@@ -267,7 +285,8 @@ impl<T: Lawful> Calls<T> for FourSlotCell<T> {
     fn finish(self, put: FourSlotPut<T>, get: FourSlotGet<T>)
         requires { is_put_of self put × is_get_of self get }
         ensures settled { Settled (opening_of self ∷ written_by put) (answers_of get) }
-        ensures atomic { AreAtomic (opening_of self) (written_by put) (put_times put) (answers_of get) (numbers_of get) (get_times get) }
+        ensures atomic { AreAtomic (opening_of self) (written_by put) (put_times put) (answers_of get)
+            (numbers_of get) (get_times get) }
         ensures ended { HaveEnded (put_times put) }
         ensures known { AreFirst (known_to get) (written_by put) (put_times put) }
     {

@@ -16,28 +16,37 @@ use crate::notes;
 use atomic_table::TableRule;
 use cell_contract::Lawful;
 
-/// Where the rule of a four-slot cell holds, words, home slots and views show a state of the four-slot register, with the
-/// opening as its noise. This state keeps the register's invariant, and some interleaving of the events of the two passes leads
-/// to it from the register's opening. The answers are settled up to the record in the slot that `latest` and its bit name. A
-/// pass's count is at most the number of control accesses among its events.
+/// Where the rule of a four-slot cell holds, words, home slots and views show a state of the four-slot register, with
+/// the opening as its noise. This state keeps the register's invariant, and some interleaving of the events of the two
+/// passes leads to it from the register's opening. The answers are settled up to the record in the slot that `latest`
+/// and its bit name. A pass's count is at most the number of control accesses among its events.
 pub fn four_slot_rule_shows<T: Lawful>()
-    ensures shown { (o : T) (s : State T (FourSlotSight T)) (r : ⟦<FourSlot as TableRule<T, notes::FourSlotSight<T>, T>>⟧.holds o s) →
+    ensures shown { (o : T) (s : State T (FourSlotSight T))
+        (r : ⟦<FourSlot as TableRule<T, notes::FourSlotSight<T>, T>>⟧.holds o s) →
         InTable (gathered s.words) s.homes r.cell.get.at_hand.value r.cell.core
         × InViews r.cell.put r.cell.get r.cell.core × (r.cell.core.noise ≡ o) }
-    ensures sound { (o : T) (s : State T (FourSlotSight T)) (r : ⟦<FourSlot as TableRule<T, notes::FourSlotSight<T>, T>>⟧.holds o s) →
+    ensures sound { (o : T) (s : State T (FourSlotSight T))
+        (r : ⟦<FourSlot as TableRule<T, notes::FourSlotSight<T>, T>>⟧.holds o s) →
         IsSound r.cell.core r.cell.put.finished.value }
-    ensures leads { (o : T) (s : State T (FourSlotSight T)) (r : ⟦<FourSlot as TableRule<T, notes::FourSlotSight<T>, T>>⟧.holds o s) →
+    ensures leads { (o : T) (s : State T (FourSlotSight T))
+        (r : ⟦<FourSlot as TableRule<T, notes::FourSlotSight<T>, T>>⟧.holds o s) →
         Leads r.cell.put.events r.cell.get.events (opening_state o o) r.cell.core }
-    ensures settled { (o : T) (s : State T (FourSlotSight T)) (r : ⟦<FourSlot as TableRule<T, notes::FourSlotSight<T>, T>>⟧.holds o s) →
-        UpTo o r.cell.put.written r.cell.get.answers r.cell.get.told (number_in r.cell.put.slots (latest_slot r.cell.core)) }
-    ensures counted { (o : T) (s : State T (FourSlotSight T)) (r : ⟦<FourSlot as TableRule<T, notes::FourSlotSight<T>, T>>⟧.holds o s) →
-        (r.cell.put.accesses ≤ control_writes r.cell.put.events) × (r.cell.get.accesses ≤ control_reads r.cell.get.events) }
-    ensures timed { (o : T) (s : State T (FourSlotSight T)) (r : ⟦<FourSlot as TableRule<T, notes::FourSlotSight<T>, T>>⟧.holds o s)
-        (m n : ℕ) →
+    ensures settled { (o : T) (s : State T (FourSlotSight T))
+        (r : ⟦<FourSlot as TableRule<T, notes::FourSlotSight<T>, T>>⟧.holds o s) →
+        UpTo o r.cell.put.written r.cell.get.answers r.cell.get.told
+        (number_in r.cell.put.slots (latest_slot r.cell.core)) }
+    ensures counted { (o : T) (s : State T (FourSlotSight T))
+        (r : ⟦<FourSlot as TableRule<T, notes::FourSlotSight<T>, T>>⟧.holds o s) →
+        (r.cell.put.accesses ≤ control_writes r.cell.put.events)
+        × (r.cell.get.accesses ≤ control_reads r.cell.get.events) }
+    ensures timed { (o : T) (s : State T (FourSlotSight T))
+        (r : ⟦<FourSlot as TableRule<T, notes::FourSlotSight<T>, T>>⟧.holds o s) (m n : ℕ) →
         At r.cell.get.numbers m n → IsReadOf (intervals r.cell.put.times.begins r.cell.put.times.ends)
         (intervals r.cell.get.times.begins r.cell.get.times.ends) m n }
-    ensures rising { (o : T) (s : State T (FourSlotSight T)) (r : ⟦<FourSlot as TableRule<T, notes::FourSlotSight<T>, T>>⟧.holds o s)
-        (i j a b : ℕ) → At r.cell.get.numbers i a → At r.cell.get.numbers j b → i ≤ j → a ≤ b }
-    ensures known { (o : T) (s : State T (FourSlotSight T)) (r : ⟦<FourSlot as TableRule<T, notes::FourSlotSight<T>, T>>⟧.holds o s) →
+    ensures rising { (o : T) (s : State T (FourSlotSight T))
+        (r : ⟦<FourSlot as TableRule<T, notes::FourSlotSight<T>, T>>⟧.holds o s) (i j a b : ℕ) →
+        At r.cell.get.numbers i a → At r.cell.get.numbers j b → i ≤ j → a ≤ b }
+    ensures known { (o : T) (s : State T (FourSlotSight T))
+        (r : ⟦<FourSlot as TableRule<T, notes::FourSlotSight<T>, T>>⟧.holds o s) →
         AreFirst r.cell.get.known r.cell.put.written r.cell.put.times }
 {}

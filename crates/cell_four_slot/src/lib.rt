@@ -1,7 +1,8 @@
-//! The four-slot cell: the register of H. Simpson, 1990, that two threads share without waiting, over words and slots of one table. It
-//! meets the contract of `cell_contract`.
+//! The four-slot cell: the register of H. Simpson, 1990, that two threads share without waiting, over words and slots
+//! of one table. It meets the contract of `cell_contract`.
 //!
-//! The rule that its words and slots keep between any two steps stands in `specs/Rule.antt`, and `laws` says what it means.
+//! The rule that its words and slots keep between any two steps stands in `specs/Rule.antt`,
+//! and `laws` says what it means.
 #![tactic(auto)]
 
 mod bits;

@@ -1,6 +1,7 @@
 //! What each step tells.
 ghost use Rattle.std.specs.Prelude.{List, []};
-ghost use Rattle.cell_four_slot.specs.Steps.{begins, stores_on, finishes, asks_on, says, takes, receipt_for, hears_of, whole_of};
+ghost use Rattle.cell_four_slot.specs.Steps.{begins, stores_on, finishes, asks_on, says, takes};
+ghost use Rattle.cell_four_slot.specs.Steps.{receipt_for, hears_of, whole_of};
 ghost use Rattle.cell_contract.specs.declared.sight.Sight.TheVariants.{Spent};
 
 use crate::notes::FourSlotSight;

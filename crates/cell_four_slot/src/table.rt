@@ -1,5 +1,6 @@
-//! The table of a four-slot cell and every step on it. No other module can reach the table: what stands here is all that can be
-//! done with it. A step on a word is one function, whose `Play` tells the seat's view what it did and raises the pass's count.
+//! The table of a four-slot cell and every step on it. No other module can reach the table: what stands here is
+//! all that can be done with it. A step on a word is one function, whose `Play` tells the seat's view what it did
+//! and raises the pass's count.
 ghost use Rattle.std.specs.Prelude.{◌≡◌, ℕ, ◌+◌, [], ◌∷◌, IfOk};
 ghost use Rattle.std.specs.Fn.{FnOnceTakesAt, FnOnceReturnsAt};
 ghost use mathlib.Core.Option.{none};
@@ -10,7 +11,8 @@ ghost use Rattle.four_slot_core.specs.declared.state.ReaderStage.TheVariants.{R1
 ghost use Rattle.four_slot_core.specs.Events.{bit_number, slot_number};
 ghost use Rattle.cell_contract.specs.Running.{last_or, Settled, held_slots};
 ghost use Rattle.cell_contract.specs.Sights.{writer_part, reader_part};
-ghost use Rattle.cell_four_slot.specs.Steps.{begins, stores_on, publishes, finishes, asks_on, announces, says, takes, first_sight};
+ghost use Rattle.cell_four_slot.specs.Steps.{begins, stores_on, publishes, finishes, asks_on, announces};
+ghost use Rattle.cell_four_slot.specs.Steps.{says, takes, first_sight};
 ghost use Rattle.cell_four_slot.specs.Steps.{receipt_for, hears_of};
 ghost use Rattle.cell_four_slot.specs.Steps.{whole_of, slot_of_choice, word_said};
 ghost use Rattle.cell_four_slot.specs.Rule.{IsTimed};
@@ -29,8 +31,8 @@ use cell_contract::{Lawful, Lays, Parts, empty};
 use std::alloc::{AllocError, Global};
 use std::snapshot::Snapshot;
 
-/// Four words of one bit and four slots. Word 8 is `latest`, words 10 and 11 are the pairs' bits, and word 24 is `reading`; the others keep
-/// the two sides' words apart.
+/// Four words of one bit and four slots. Word 8 is `latest`, words 10 and 11 are the pairs' bits, and word 24 is
+/// `reading`; the others keep the two sides' words apart.
 #[derive(Drop)]
 pub struct FourSlotTable<T: Lawful> {
     inner: Table<T, FourSlotSight<T>, T, FourSlot, Global>,
@@ -48,7 +50,8 @@ impl<T: Lawful> FourSlotTable<T> {
     pub(crate) fn new(alloc: Global, first: &T) -> Result<(Self, FourSlotSeat<T>), AllocError>
         requires { T.fits first.now }
         ensures key { IfOk result (λ r. r.0.inner.shared.key ≡ first.now) }
-        ensures seat { IfOk result (λ r. (r.1.inner.table_id ≡ r.0.inner.shared.table_id) × (r.1.inner.me ≡ (first_sight first.now, []))) }
+        ensures seat { IfOk result (λ r. (r.1.inner.table_id ≡ r.0.inner.shared.table_id)
+            × (r.1.inner.me ≡ (first_sight first.now, []))) }
     {
         let mut slots = Vec::new(alloc);
         slots.push(*first).map_err(|_| AllocError)?;
@@ -63,7 +66,8 @@ impl<T: Lawful> FourSlotTable<T> {
     pub(crate) fn part(&self, seat: &mut FourSlotSeat<T>) -> FourSlotSeat<T>
         requires own { seat.old.inner.table_id ≡ self.now.inner.shared.table_id }
         requires whole { (p : WriterNotes T) × (g : ReaderNotes T) × (seat.old.inner.me.0 ≡ Both p g) }
-        ensures own { (seat.new.inner.table_id ≡ seat.old.inner.table_id) × (result.inner.table_id ≡ seat.old.inner.table_id) }
+        ensures own { (seat.new.inner.table_id ≡ seat.old.inner.table_id)
+            × (result.inner.table_id ≡ seat.old.inner.table_id) }
         ensures parted { (seat.new.inner.me ≡ (writer_part seat.old.inner.me.0, seat.old.inner.me.1))
             × (result.inner.me ≡ (reader_part seat.old.inner.me.0, [])) }
     {
@@ -75,8 +79,10 @@ impl<T: Lawful> FourSlotTable<T> {
     pub(crate) fn tell(&self, seat: &mut FourSlotSeat<T>) -> FourSlotSeat<T>
         requires own { seat.old.inner.table_id ≡ self.now.inner.shared.table_id }
         requires idle { (p : WriterNotes T) × (seat.old.inner.me.0 ≡ Writer p) × (p.stage ≡ W5) }
-        ensures own { (seat.new.inner.table_id ≡ seat.old.inner.table_id) × (result.inner.table_id ≡ seat.old.inner.table_id) }
-        ensures parted { (seat.new.inner.me ≡ seat.old.inner.me) × (result.inner.me ≡ (receipt_for seat.old.inner.me.0, [])) }
+        ensures own { (seat.new.inner.table_id ≡ seat.old.inner.table_id)
+            × (result.inner.table_id ≡ seat.old.inner.table_id) }
+        ensures parted { (seat.new.inner.me ≡ seat.old.inner.me)
+            × (result.inner.me ≡ (receipt_for seat.old.inner.me.0, [])) }
     {
         let parted = self.inner.shared.split_seat::<Tells>(&mut seat.inner);
         FourSlotSeat { inner: parted }
@@ -117,7 +123,8 @@ impl<T: Lawful> FourSlotTable<T> {
             Settled (self.inner.shared.key ∷ p.written) g.answers }
         ensures timed { (p : WriterNotes T) (g : ReaderNotes T) → seat.inner.me.0 ≡ Both p g →
             (now : ℕ) × (shown : ℕ) × (pair : ℕ) × IsTimed self.inner.shared.key p g now p.stage g.stage shown pair }
-        ensures known { (p : WriterNotes T) (g : ReaderNotes T) → seat.inner.me.0 ≡ Both p g → AreFirst g.known p.written p.times }
+        ensures known { (p : WriterNotes T) (g : ReaderNotes T) → seat.inner.me.0 ≡ Both p g →
+            AreFirst g.known p.written p.times }
     {
         let FourSlotTable { inner: table } = self;
         let FourSlotSeat { inner: seat } = seat;
@@ -132,7 +139,8 @@ impl<T: Lawful> FourSlotTable<T> {
         requires idle { (p : WriterNotes T) × (seat.old.inner.me ≡ (Writer p, [])) × (p.stage ≡ W5) × T.fits item.value
             × T.rises (last_or p.opening.value p.written) item.value }
         ensures own { seat.new.inner.table_id ≡ seat.old.inner.table_id }
-        ensures begun { begins K.item (step self.now.inner.shared.table_id.slots 24 0 0 none) seat.old.inner.me result seat.new.inner.me }
+        ensures begun { begins K.item (step self.now.inner.shared.table_id.slots 24 0 0 none)
+            seat.old.inner.me result seat.new.inner.me }
     {
         self.inner.shared.load::<Begins<K>>(&mut seat.inner, 24)
     }
@@ -141,7 +149,8 @@ impl<T: Lawful> FourSlotTable<T> {
     #[inline]
     pub(crate) fn publish(&self, seat: &mut FourSlotSeat<T>, pair: u64, index: u64, shown: u64)
         requires own { seat.old.inner.table_id ≡ self.now.inner.shared.table_id }
-        requires filled { (p : WriterNotes T) × (seat.old.inner.me ≡ (Writer p, (slot_number p.slot, p.item.value) ∷ [])) × (p.stage ≡ W3)
+        requires filled { (p : WriterNotes T)
+            × (seat.old.inner.me ≡ (Writer p, (slot_number p.slot, p.item.value) ∷ [])) × (p.stage ≡ W3)
             × (pair ≡ bit_number p.slot.pair) × (index ≡ bit_number p.slot.index) × (shown ≡ bit_number p.latest) }
         ensures own { seat.new.inner.table_id ≡ seat.old.inner.table_id }
         ensures published { publishes seat.old.inner.me seat.new.inner.me }
@@ -154,14 +163,17 @@ impl<T: Lawful> FourSlotTable<T> {
         self.finish(seat, pair);
     }
 
-    /// W4: stores the index in the pair's word, and gives the slot back. This is W5 too where `latest` has the pair already.
+    /// W4: stores the index in the pair's word, and gives the slot back. This is W5 too where
+    /// `latest` has the pair already.
     #[inline]
     fn store(&self, seat: &mut FourSlotSeat<T>, word: usize, index: u64)
         requires own { seat.old.inner.table_id ≡ self.now.inner.shared.table_id }
-        requires filled { (p : WriterNotes T) × (seat.old.inner.me ≡ (Writer p, (slot_number p.slot, p.item.value) ∷ [])) × (p.stage ≡ W3)
+        requires filled { (p : WriterNotes T)
+            × (seat.old.inner.me ≡ (Writer p, (slot_number p.slot, p.item.value) ∷ [])) × (p.stage ≡ W3)
             × (word ≡ 10 + bit_number p.slot.pair) × (index ≡ bit_number p.slot.index) }
         ensures own { seat.new.inner.table_id ≡ seat.old.inner.table_id }
-        ensures stored { stores_on (step self.now.inner.shared.table_id.slots word index 0 none) seat.old.inner.me index seat.new.inner.me }
+        ensures stored { stores_on (step self.now.inner.shared.table_id.slots word index 0 none)
+            seat.old.inner.me index seat.new.inner.me }
     {
         self.inner
             .shared
@@ -172,9 +184,11 @@ impl<T: Lawful> FourSlotTable<T> {
     #[inline]
     fn finish(&self, seat: &mut FourSlotSeat<T>, pair: u64)
         requires own { seat.old.inner.table_id ≡ self.now.inner.shared.table_id }
-        requires stored { (p : WriterNotes T) × (seat.old.inner.me.0 ≡ Writer p) × (p.stage ≡ W4) × (pair ≡ bit_number p.slot.pair) }
+        requires stored { (p : WriterNotes T) × (seat.old.inner.me.0 ≡ Writer p) × (p.stage ≡ W4)
+            × (pair ≡ bit_number p.slot.pair) }
         ensures own { seat.new.inner.table_id ≡ seat.old.inner.table_id }
-        ensures finished { finishes (step self.now.inner.shared.table_id.slots 8 pair 0 none) seat.old.inner.me pair seat.new.inner.me }
+        ensures finished { finishes (step self.now.inner.shared.table_id.slots 8 pair 0 none)
+            seat.old.inner.me pair seat.new.inner.me }
     {
         self.inner
             .shared
@@ -185,7 +199,8 @@ impl<T: Lawful> FourSlotTable<T> {
     #[inline]
     pub(crate) fn announce(&self, seat: &mut FourSlotSeat<T>, said: u64) -> u64
         requires own { seat.old.inner.table_id ≡ self.now.inner.shared.table_id }
-        requires idle { (g : ReaderNotes T) × (seat.old.inner.me ≡ (Reader g, slot_of_choice g.chosen g.at_hand.value)) × (g.stage ≡ R5)
+        requires idle { (g : ReaderNotes T)
+            × (seat.old.inner.me ≡ (Reader g, slot_of_choice g.chosen g.at_hand.value)) × (g.stage ≡ R5)
             × (said ≡ word_said g.chosen) }
         ensures own { seat.new.inner.table_id ≡ seat.old.inner.table_id }
         ensures announced { announces seat.old.inner.me result seat.new.inner.me }
@@ -202,9 +217,11 @@ impl<T: Lawful> FourSlotTable<T> {
     #[inline]
     fn ask(&self, seat: &mut FourSlotSeat<T>) -> u64
         requires own { seat.old.inner.table_id ≡ self.now.inner.shared.table_id }
-        requires idle { (g : ReaderNotes T) × (seat.old.inner.me ≡ (Reader g, slot_of_choice g.chosen g.at_hand.value)) × (g.stage ≡ R5) }
+        requires idle { (g : ReaderNotes T) × (seat.old.inner.me ≡ (Reader g, slot_of_choice g.chosen g.at_hand.value))
+            × (g.stage ≡ R5) }
         ensures own { seat.new.inner.table_id ≡ seat.old.inner.table_id }
-        ensures asked { asks_on (step self.now.inner.shared.table_id.slots 8 0 0 none) seat.old.inner.me result seat.new.inner.me }
+        ensures asked { asks_on (step self.now.inner.shared.table_id.slots 8 0 0 none)
+            seat.old.inner.me result seat.new.inner.me }
     {
         self.inner.shared.load::<Asks>(&mut seat.inner, 8)
     }
@@ -213,10 +230,12 @@ impl<T: Lawful> FourSlotTable<T> {
     #[inline]
     fn say(&self, seat: &mut FourSlotSeat<T>, pair: u64)
         requires own { seat.old.inner.table_id ≡ self.now.inner.shared.table_id }
-        requires asked { (g : ReaderNotes T) × (seat.old.inner.me ≡ (Reader g, slot_of_choice g.chosen g.at_hand.value)) × (g.stage ≡ R1)
+        requires asked { (g : ReaderNotes T)
+            × (seat.old.inner.me ≡ (Reader g, slot_of_choice g.chosen g.at_hand.value)) × (g.stage ≡ R1)
             × (pair ≡ bit_number g.slot.pair) }
         ensures own { seat.new.inner.table_id ≡ seat.old.inner.table_id }
-        ensures said { says (step self.now.inner.shared.table_id.slots 24 pair 0 none) seat.old.inner.me pair seat.new.inner.me }
+        ensures said { says (step self.now.inner.shared.table_id.slots 24 pair 0 none)
+            seat.old.inner.me pair seat.new.inner.me }
     {
         self.inner.shared.store::<Says>(&mut seat.inner, 24, pair);
     }
@@ -225,7 +244,8 @@ impl<T: Lawful> FourSlotTable<T> {
     #[inline]
     pub(crate) fn take(&self, seat: &mut FourSlotSeat<T>, word: usize) -> u64
         requires own { seat.old.inner.table_id ≡ self.now.inner.shared.table_id }
-        requires said { (g : ReaderNotes T) × (seat.old.inner.me ≡ (Reader g, [])) × (g.stage ≡ R2) × (word ≡ 10 + bit_number g.slot.pair) }
+        requires said { (g : ReaderNotes T) × (seat.old.inner.me ≡ (Reader g, [])) × (g.stage ≡ R2)
+            × (word ≡ 10 + bit_number g.slot.pair) }
         ensures own { seat.new.inner.table_id ≡ seat.old.inner.table_id }
         ensures taken { takes T.fits T.rises (step self.now.inner.shared.table_id.slots word 0 0 none) seat.old.inner.me
             result seat.new.inner.me }
@@ -269,7 +289,8 @@ impl<T: Lawful> FourSlotTable<T> {
         requires callable { (x : T) → seat.old.inner.me.1 ≡ (slot, x) ∷ [] → FnOnceTakesAt F.FnOnce look x }
         ensures own { seat.new.inner.table_id ≡ seat.old.inner.table_id }
         ensures same { seat.new.inner.me ≡ seat.old.inner.me }
-        ensures seen { (item : T) × (seat.old.inner.me.1 ≡ (slot, item) ∷ []) × FnOnceReturnsAt F.FnOnce look item result }
+        ensures seen { (item : T) × (seat.old.inner.me.1 ≡ (slot, item) ∷ [])
+            × FnOnceReturnsAt F.FnOnce look item result }
     {
         look(&*seat.inner.slot_mut(&self.inner.shared, slot))
     }

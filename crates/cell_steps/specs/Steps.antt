@@ -1,5 +1,5 @@
--- What is shown of a four-slot cell that is stepped (this project's own; the events are those of H. Simpson, Four-slot fully
--- asynchronous communication mechanism, IEE Proceedings E, 1990).
+-- What is shown of a four-slot cell that is stepped (this project's own; the events are those of H. Simpson, Four-slot
+-- fully asynchronous communication mechanism, IEE Proceedings E, 1990).
 use Rattle.std.specs.Prelude.{ℕ, ◌+◌, List, [], ◌∷◌, map, nat_eq, if◌then◌else◌}
 use Rattle.four_slot_core.specs.declared.schedule.Turn.{Turn}
 use Rattle.four_slot_core.specs.declared.schedule.Turn.TheVariants.{Writer, Reader}

@@ -1,5 +1,5 @@
-//! What a page shows of a four-slot cell that is stepped: one export, which makes a schedule's steps and tells the state that
-//! they lead to. It takes no memory, so the toolchain builds it for WebAssembly too.
+//! What a page shows of a four-slot cell that is stepped: one export, which makes a schedule's steps and tells the
+//! state that they lead to. It takes no memory, so the toolchain builds it for WebAssembly too.
 #![tactic(auto)]
 
 mod export;

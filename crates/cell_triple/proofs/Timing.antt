@@ -13,7 +13,8 @@ use Rattle.cell_triple.specs.declared.notes.WriterNotes.{WriterNotes}
 use Rattle.cell_triple.specs.declared.notes.ReaderNotes.{ReaderNotes}
 use Rattle.cell_triple.specs.Rule.{IsTimed}
 use Rattle.cell_triple.specs.Steps.{published, looked_by, asked_by, fetched, answered, heard_by, first_writer, first_reader}
-use Rattle.cell_contract.proofs.Timing.{late_ended, begun_longer, turn_begun, turn_ended, within_pushed, by_passed, by_begun, by_ended, read_of}
+use Rattle.cell_contract.proofs.Timing.{late_ended, begun_longer, turn_begun, turn_ended, within_pushed}
+use Rattle.cell_contract.proofs.Timing.{by_passed, by_begun, by_ended, read_of}
 use Rattle.cell_contract.proofs.Timing.{heeded_begun, heeded_ended, each_heeded, one_heeded}
 use Rattle.cell_contract.proofs.Timing.{late_asked, late_more, begun_more, most_more, rising_more, source_more}
 

@@ -1,5 +1,5 @@
--- The rule of the triple buffer: one word, `middle + 4 * fresh`, and three slots. The triple buffer is in common use; the layout of
--- the word is this project's own.
+-- The rule of the triple buffer: one word, `middle + 4 * fresh`, and three slots. The triple buffer is in common use;
+-- the layout of the word is this project's own.
 use Rattle.std.specs.Prelude.{◌≡◌, ◌≢◌, ℕ, ◌+◌, ◌*◌, ◌<◌, ◌≤◌, Some, List, [], ◌∷◌, length, All, slice_get}
 use mathlib.Core.Option.{some, Option as Opt}
 use lib.ListN.{get_elem?}
@@ -12,9 +12,10 @@ use Rattle.cell_triple.specs.Steps.{TripleSight}
 use Rattle.cell_contract.specs.declared.sight.Sight.TheVariants.{Spent, Told, Writer, Reader, Both}
 
 module _ {T : Type 0} where
-  -- The word and the slots: the writer's slot, the reader's and the middle are three, and a slot that nobody took is at home.
-  pub record InTable (words : List ℕ) (homes : List (Opt T)) (o : T) (p : WriterNotes T) (g : ReaderNotes T) (middle fresh : ℕ)
-      (in_middle : T) : Type 0 where
+  -- The word and the slots: the writer's slot, the reader's and the middle are three, and a slot
+  -- that nobody took is at home.
+  pub record InTable (words : List ℕ) (homes : List (Opt T)) (o : T) (p : WriterNotes T) (g : ReaderNotes T)
+      (middle fresh : ℕ) (in_middle : T) : Type 0 where
     pub word_is : words ≡ (middle + 4 * fresh) ∷ []
     pub three : length homes ≡ 3
     pub small : (middle < 3) × (fresh < 2) × (p.slot < 3) × (g.slot < 3)
@@ -30,8 +31,8 @@ module _ {T : Type 0} where
     pub asked : g.asked ≡ 1 → fresh ≡ 1
     pub unread : fresh ≡ 1 → 0 < length p.written
 
-  -- The writer's swaps are as many as the records written. The reader's loads are as many as its answers, and one more while a
-  -- mark was found and not taken.
+  -- The writer's swaps are as many as the records written. The reader's loads are as many as its answers, and one more
+  -- while a mark was found and not taken.
   pub record IsCounted (p : WriterNotes T) (g : ReaderNotes T) : Type 0 where
     pub swapped : p.swaps ≡ length p.written
     pub loaded : g.loads ≡ length g.answers + g.asked
@@ -55,9 +56,10 @@ module _ {T : Type 0} where
     pub begun_reads : length g.times.begins ≡ length g.answers
     pub ended_reads : length g.times.ends ≡ length g.answers
     pub numbered : length g.numbers ≡ length g.answers
-    -- an answer is the record with its number; no write that ended before the read began has a greater number; the write with the
-    -- number began before the read ended; and the numbers never fall, up to that of the last write
-    pub source : (m n : ℕ) (x : T) → At g.numbers m n → slice_get g.answers m ≡ Some x → slice_get (o ∷ p.written) n ≡ Some x
+    -- an answer is the record with its number; no write that ended before the read began has a greater number; the
+    -- write with the number began before the read ended; and the numbers never fall, up to that of the last write
+    pub source : (m n : ℕ) (x : T) → At g.numbers m n → slice_get g.answers m ≡ Some x →
+        slice_get (o ∷ p.written) n ≡ Some x
     pub late : (m n b : ℕ) → At g.numbers m n → At g.times.begins m b → IsLate p.times.ends b n
     pub begun : (m n e : ℕ) → At g.numbers m n → At g.times.ends m e → HasBegun p.times.begins e n
     pub rising : (i j a b : ℕ) → At g.numbers i a → At g.numbers j b → i ≤ j → a ≤ b
@@ -76,7 +78,8 @@ module _ {T : Type 0} where
     Sees (Both q h) = (q ≡ p) × (h ≡ g) × (seat ≡ writer) × (seat ≡ reader)
 
 -- The rule. `o` is the opening.
-pub record TripleRule {T : Type 0} (fits : T → Type 0) (rises : T → T → Type 0) (o : T) (s : State T (TripleSight T)) : Type 0 where
+pub record TripleRule {T : Type 0} (fits : T → Type 0) (rises : T → T → Type 0) (o : T)
+    (s : State T (TripleSight T)) : Type 0 where
   pub put : WriterNotes T
   pub get : ReaderNotes T
   pub writer : ℕ

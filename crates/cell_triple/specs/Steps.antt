@@ -2,7 +2,8 @@
 use Rattle.std.specs.Prelude.{◌≡◌, ℕ, ◌+◌, ◌%◌, ◌<◌, ◌≤◌, max, [], ◌∷◌, ◌++◌}
 use Rattle.atomic_table.specs.Table.{Me, Step}
 use Rattle.cell_contract.specs.Running.{last_or, IsAnswer, Rising, snap}
-use Rattle.cell_contract.specs.Intervals.{made_at, heard_at, no_times, none_known, dated_at, known_as, AreHeeded, IsNextAnswer}
+use Rattle.cell_contract.specs.Intervals.{made_at, heard_at, no_times, none_known, dated_at}
+use Rattle.cell_contract.specs.Intervals.{known_as, AreHeeded, IsNextAnswer}
 use Rattle.cell_contract.specs.declared.times.Dated.{Dated}
 use Rattle.cell_contract.specs.declared.times.Known.{Known}
 use Rattle.cell_triple.specs.declared.notes.WriterNotes.{WriterNotes}
@@ -20,11 +21,13 @@ module _ {T : Type 0} where
   -- the writer's seat takes slot 0, the reader's slot 2
   abbrev pub put_took : Step T → Sat T → ℕ → Sat T → Type 0
   put_took st m n m' =
-      (p : WriterNotes T) → m.0 ≡ Writer p → (m'.0 ≡ Writer (record p { has = 1 })) × (m'.1 ≡ (p.slot, p.opening.value) ∷ [])
+      (p : WriterNotes T) → m.0 ≡ Writer p →
+      (m'.0 ≡ Writer (record p { has = 1 })) × (m'.1 ≡ (p.slot, p.opening.value) ∷ [])
 
   abbrev pub get_took : Step T → Sat T → ℕ → Sat T → Type 0
   get_took st m n m' =
-      (g : ReaderNotes T) → m.0 ≡ Reader g → (m'.0 ≡ Reader (record g { has = 1 })) × (m'.1 ≡ (g.slot, g.at_hand.value) ∷ [])
+      (g : ReaderNotes T) → m.0 ≡ Reader g →
+      (m'.0 ≡ Reader (record g { has = 1 })) × (m'.1 ≡ (g.slot, g.at_hand.value) ∷ [])
 
   -- the writer's swap puts its record in the middle and takes what was there: the whole write
   abbrev pub published : WriterNotes T → ℕ → T → ℕ → WriterNotes T
@@ -33,7 +36,8 @@ module _ {T : Type 0} where
 
   abbrev pub put_swapped : Step T → Sat T → ℕ → Sat T → Type 0
   put_swapped st m n m' = (p : WriterNotes T) (x : T) → m.0 ≡ Writer p → m.1 ≡ (p.slot, x) ∷ []
-      → (y : T) × (n % 4 < 3) × (t : ℕ) × (p.times.clock < t) × (m'.0 ≡ Writer (published p (n % 4) x t)) × (m'.1 ≡ (n % 4, y) ∷ [])
+      → (y : T) × (n % 4 < 3) × (t : ℕ) × (p.times.clock < t) × (m'.0 ≡ Writer (published p (n % 4) x t))
+      × (m'.1 ≡ (n % 4, y) ∷ [])
 
   -- the notes after a load that found this word, and then with a mark
   abbrev pub looked_by : ReaderNotes T → ℕ → ReaderNotes T
@@ -64,13 +68,15 @@ module _ {T : Type 0} where
     abbrev pub MayAnswer : ReaderNotes T → T → Type 0
     MayAnswer g x = IsAnswer fits rises g.opening.value g.answers g.told x
 
-    -- the reader's load: with no mark its own slot has the answer. The writes shown are all that the writer has made, and they obey the law
+    -- the reader's load: with no mark its own slot has the answer. The writes shown are all that the writer
+    -- has made, and they obey the law
     abbrev pub looked : Step T → Sat T → ℕ → Sat T → Type 0
     looked st m n m' = (g : ReaderNotes T) → m.0 ≡ Reader g
         → (m'.1 ≡ m.1) × (4 ≤ n → m'.0 ≡ Reader (asked_by g n))
         × (n < 4 → (t : ℕ) × (k : ℕ) × (writes : Known T) × (g.times.clock < t)
         × (m'.0 ≡ Reader (answered (looked_by g n) g.at_hand.value t k writes))
-        × MayAnswer g g.at_hand.value × HasAnswered g (answered (looked_by g n) g.at_hand.value t k writes) g.at_hand.value
+        × MayAnswer g g.at_hand.value
+        × HasAnswered g (answered (looked_by g n) g.at_hand.value t k writes) g.at_hand.value
         × AreHeeded g.heard writes k × Rising fits rises g.opening.value writes.items)
 
     -- the reader's swap takes the middle, which is the answer
@@ -115,7 +121,8 @@ module _ {T : Type 0} where
   receipt_for v = Spent
 
   abbrev pub heard_by : ReaderNotes T → Dated T → ReaderNotes T
-  heard_by g x = record g { told = g.told ++ x.item ∷ []; times = heard_at g.times x.time; heard = g.heard ++ x.writes ∷ [] }
+  heard_by g x =
+      record g { told = g.told ++ x.item ∷ []; times = heard_at g.times x.time; heard = g.heard ++ x.writes ∷ [] }
 
   abbrev pub hears_of : TripleSight T → TripleSight T → TripleSight T
   hears_of (Reader g) (Told x) = Reader (heard_by g x.value)

@@ -61,8 +61,8 @@ module _ {T : Type 0} where
   abbrev pub writes_of : TripleReceipt T → Known T
   writes_of t = (receipt_or (dated t.spare.value) t.seat.inner.me.0).writes
 
-  -- the calls made with a pass, in the table's time; the numbers of the answers; the writes of which a reader knows; and those of which
-  -- receipts told it
+  -- the calls made with a pass, in the table's time; the numbers of the answers; the writes of which a reader knows;
+  -- and those of which receipts told it
   abbrev pub put_times : TriplePut T → Times
   put_times p = (put_notes p).times
 
@@ -96,7 +96,8 @@ module _ {T : Type 0} where
   found_by g = (get_notes g).found
 
   -- what the load, and the swap where there is one, make of the reader's pass: the answer is then at hand
-  pub record HasLooked (fits : T → Type 0) (rises : T → T → Type 0) (c : TripleCell T) (g h : TripleGet T) : Type 0 where
+  pub record HasLooked (fits : T → Type 0) (rises : T → T → Type 0) (c : TripleCell T)
+      (g h : TripleGet T) : Type 0 where
     pub own : is_get_of c h
     pub answers : answers_of h ≡ answers_of g ++ at_hand_of h ∷ []
     pub told : told_to h ≡ told_to g

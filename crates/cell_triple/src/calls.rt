@@ -3,7 +3,8 @@ ghost use Rattle.std.specs.Prelude.{◌≡◌, ℕ, ◌+◌, ◌<◌, ◌≤◌,
 ghost use Rattle.std.specs.Fn.{FnOnceTakesAt, FnOnceReturnsAt};
 ghost use Rattle.cell_contract.specs.Running.{last_or, IsAnswer};
 ghost use Rattle.cell_contract.specs.CallsSoFar.{AreCallsSoFar};
-ghost use Rattle.cell_triple.specs.Words.{opening_of, is_put_of, is_get_of, is_receipt_of, written_by, answers_of, at_hand_of, told_to};
+ghost use Rattle.cell_triple.specs.Words.{opening_of, is_put_of, is_get_of, is_receipt_of, written_by};
+ghost use Rattle.cell_triple.specs.Words.{answers_of, at_hand_of, told_to};
 ghost use Rattle.cell_triple.specs.Words.{named_by, swaps_of_put, loads_of, swaps_of, held_by, found_by, HasLooked};
 ghost use Rattle.cell_triple.specs.Words.{put_times, get_times, numbers_of, known_to, time_of, heard_by, writes_of};
 ghost use Rattle.cell_contract.specs.Intervals.{AreHeeded, IsNextAnswer, IsNextCall, no_times, none_known};
@@ -39,8 +40,8 @@ impl<T: Lawful> TripleCell<T> {
         ensures own { IfOk result (λ r. (opening_of r.0 ≡ first.now) × is_put_of r.0 r.1 × is_get_of r.0 r.2) }
         ensures empty { IfOk result (λ r. (written_by r.1 ≡ []) × (answers_of r.2 ≡ []) × (told_to r.2 ≡ [])) }
         ensures unused { IfOk result (λ r. (swaps_of_put r.1 ≡ 0) × (loads_of r.2 + swaps_of r.2 ≡ 0)) }
-        ensures timeless { IfOk result (λ r. (put_times r.1 ≡ no_times) × (get_times r.2 ≡ no_times) × (numbers_of r.2 ≡ [])
-            × (known_to r.2 ≡ none_known)) }
+        ensures timeless { IfOk result (λ r. (put_times r.1 ≡ no_times) × (get_times r.2 ≡ no_times)
+            × (numbers_of r.2 ≡ []) × (known_to r.2 ≡ none_known)) }
         ensures unheard { IfOk result (λ r. heard_by r.2 ≡ []) }
     {
         let (table, mut put) = TripleTable::new(alloc, first)?;
@@ -68,7 +69,8 @@ impl<T: Lawful> TripleCell<T> {
     #[inline]
     pub fn write_laid<L: Lays<T>>(&self, put: &mut TriplePut<T>, parts: &L)
         requires own { is_put_of self.now put.old }
-        requires lawful { T.fits (L.whole parts.now) × T.rises (last_or (opening_of self.now) (written_by put.old)) (L.whole parts.now) }
+        requires lawful { T.fits (L.whole parts.now)
+            × T.rises (last_or (opening_of self.now) (written_by put.old)) (L.whole parts.now) }
         ensures own { is_put_of self.now put.new }
         ensures written { written_by put.new ≡ written_by put.old ++ L.whole parts.now ∷ [] }
         ensures accesses { swaps_of_put put.new ≤ swaps_of_put put.old + 3 }
@@ -79,12 +81,13 @@ impl<T: Lawful> TripleCell<T> {
         self.write_placed(put);
     }
 
-    /// Shows the record in the writer's slot to the reader, as `TriplePut::place` left it. The slot had an older record, or the opening: what
-    /// was not written there since is still that record's.
+    /// Shows the record in the writer's slot to the reader, as `TriplePut::place` left it. The slot had an older
+    /// record, or the opening: what was not written there since is still that record's.
     #[inline]
     pub fn write_placed(&self, put: &mut TriplePut<T>)
         requires own { is_put_of self.now put.old }
-        requires lawful { T.fits (placed_by put.old) × T.rises (last_or (opening_of self.now) (written_by put.old)) (placed_by put.old) }
+        requires lawful { T.fits (placed_by put.old)
+            × T.rises (last_or (opening_of self.now) (written_by put.old)) (placed_by put.old) }
         ensures own { is_put_of self.now put.new }
         ensures written { written_by put.new ≡ written_by put.old ++ placed_by put.old ∷ [] }
         ensures accesses { swaps_of_put put.new ≤ swaps_of_put put.old + 3 }
@@ -95,8 +98,8 @@ impl<T: Lawful> TripleCell<T> {
         put.slot = (found % 4) as usize;
     }
 
-    /// Lends the last answer again, where it lies. No write goes into the slot that a pass holds, so until the next read it is the same
-    /// record. Makes no access.
+    /// Lends the last answer again, where it lies. No write goes into the slot that a pass holds, so until the next
+    /// read it is the same record. Makes no access.
     #[inline]
     pub fn look_again<R, F: FnOnce(&T) -> R>(&self, get: &mut TripleGet<T>, see: F) -> R
         requires own { is_get_of self.now get.old }
@@ -203,7 +206,8 @@ impl<T: Lawful> Calls<T> for TripleCell<T> {
             (answers_of get.new) (get_times get.new) result }
         ensures heeds { (heard_by get.new ≡ heard_by get.old)
             × AreHeeded (heard_by get.new) (known_to get.new) (last_or 0 (numbers_of get.new)) }
-        ensures so_far { AreCallsSoFar T.fits T.rises (opening_of self.now) (heard_by get.new) (answers_of get.new) (get_times get.new) }
+        ensures so_far { AreCallsSoFar T.fits T.rises (opening_of self.now) (heard_by get.new) (answers_of get.new)
+            (get_times get.new) }
     {
         refresh(self, get);
         self.table.copy(&mut get.seat, get.slot)
@@ -212,12 +216,14 @@ impl<T: Lawful> Calls<T> for TripleCell<T> {
     #[inline]
     fn read_with<R, F: FnOnce(&T) -> R>(&self, get: &mut TripleGet<T>, look: F) -> R
         requires own { is_get_of self.now get.old }
-        requires callable { (x : T) → IsAnswer T.fits T.rises (opening_of self.now) (answers_of get.old) (told_to get.old) x →
+        requires callable { (x : T) →
+            IsAnswer T.fits T.rises (opening_of self.now) (answers_of get.old) (told_to get.old) x →
             FnOnceTakesAt F.FnOnce look x }
         ensures own { is_get_of self.now get.new }
         ensures answers { answers_of get.new ≡ answers_of get.old ++ at_hand_of get.new ∷ [] }
         ensures told { told_to get.new ≡ told_to get.old }
-        ensures running { IsAnswer T.fits T.rises (opening_of self.now) (answers_of get.old) (told_to get.old) (at_hand_of get.new) }
+        ensures running { IsAnswer T.fits T.rises (opening_of self.now) (answers_of get.old) (told_to get.old)
+            (at_hand_of get.new) }
         ensures accesses { loads_of get.new + swaps_of get.new ≤ loads_of get.old + swaps_of get.old + 3 }
         ensures loaded { loads_of get.new ≡ loads_of get.old + 1 }
         ensures unmarked { found_by get.new < 4 → swaps_of get.new ≡ swaps_of get.old }
@@ -229,7 +235,8 @@ impl<T: Lawful> Calls<T> for TripleCell<T> {
             (answers_of get.new) (get_times get.new) (at_hand_of get.new) }
         ensures heeds { (heard_by get.new ≡ heard_by get.old)
             × AreHeeded (heard_by get.new) (known_to get.new) (last_or 0 (numbers_of get.new)) }
-        ensures so_far { AreCallsSoFar T.fits T.rises (opening_of self.now) (heard_by get.new) (answers_of get.new) (get_times get.new) }
+        ensures so_far { AreCallsSoFar T.fits T.rises (opening_of self.now) (heard_by get.new) (answers_of get.new)
+            (get_times get.new) }
         ensures looked { FnOnceReturnsAt F.FnOnce look (at_hand_of get.new) result }
     {
         refresh(self, get);

@@ -1,7 +1,8 @@
 //! The triple buffer: one word and three slots. It is a technique in common use.
 //!
-//! The word is `middle + 4 * mark`. A write fills the writer's slot and swaps it with the middle, with a mark. A read loads the
-//! word and, where it has the mark, swaps its own slot with the middle, without one; the answer is the record of its slot.
+//! The word is `middle + 4 * mark`. A write fills the writer's slot and swaps it with the middle, with a mark.
+//! A read loads the word and, where it has the mark, swaps its own slot with the middle, without one; the
+//! answer is the record of its slot.
 ghost use Rattle.std.specs.Prelude.{◌≡◌, ℕ, ◌<◌, [], ◌∷◌};
 ghost use Rattle.cell_contract.specs.declared.sight.Sight.TheVariants.{Writer, Reader, Told};
 ghost use Rattle.cell_contract.specs.Running.{held_slots, snap};
@@ -53,7 +54,8 @@ pub struct TripleGet<T: Copy> {
     /// The opening: the notes' default in proofs.
     pub(crate) spare: Spare<T>,
     ghost known: { seat.inner.me.0 ≡ Reader (reader_or (first_reader spare.value) seat.inner.me.0) },
-    ghost ready: { let g = reader_or (first_reader spare.value) seat.inner.me.0 in (g.has ≡ 1) × (g.slot ≡ slot) × (g.asked ≡ 0) },
+    ghost ready: { let g = reader_or (first_reader spare.value) seat.inner.me.0 in (g.has ≡ 1) × (g.slot ≡ slot)
+        × (g.asked ≡ 0) },
     ghost held: { seat.inner.me.1 ≡ (slot, (reader_or (first_reader spare.value) seat.inner.me.0).at_hand.value) ∷ [] },
     ghost low: { slot < 3 },
 }

@@ -9,8 +9,9 @@ use crate::cell::{TripleCell, TriplePut};
 use cell_contract::Lawful;
 
 impl<T: Lawful> TriplePut<T> {
-    /// Lends the writer's slot, to be filled where the record will lie, until the pass is used again. Makes no access. It still has an
-    /// older record, or the opening. `TripleCell::write_placed` then shows what it has, and any other write fills it anew.
+    /// Lends the writer's slot, to be filled where the record will lie, until the pass is used again. Makes no
+    /// access. It still has an older record, or the opening. `TripleCell::write_placed` then shows what it has, and
+    /// any other write fills it anew.
     #[inline]
     pub fn place<'a>(&'a mut self, cell: &'a TripleCell<T>) -> &'a mut T
         requires own { is_put_of cell.now self.old }

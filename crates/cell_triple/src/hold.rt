@@ -19,12 +19,13 @@ fn read_only<'a, T>(place: &'a mut T) -> &'a T
 }
 
 impl<T: Lawful> TripleGet<T> {
-    /// Lends the last answer, or the opening, where it lies, until the pass is used again. Makes no access. No write goes into the slot
-    /// that a pass holds, so it stays the same record.
+    /// Lends the last answer, or the opening, where it lies, until the pass is used again. Makes no access. No write
+    /// goes into the slot that a pass holds, so it stays the same record.
     #[inline]
     pub fn hold<'a>(&'a mut self, cell: &'a TripleCell<T>) -> &'a T
         requires own { is_get_of cell.now self.old }
-        ensures* same { sem 𝓛 (follows_so (the_row T.row) (the_row T.row) self.entry.ghost_name none (λ _ _. ⊤) (λ g. IsSame self.old g)) }
+        ensures* same { sem 𝓛 (follows_so (the_row T.row) (the_row T.row) self.entry.ghost_name none (λ _ _. ⊤)
+            (λ g. IsSame self.old g)) }
         ensures held { result.now ≡ at_hand_of self.old }
     {
         let slot = self.slot;

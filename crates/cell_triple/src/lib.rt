@@ -1,7 +1,8 @@
-//! The triple buffer: one word and three slots of one table, that two threads share without waiting. It meets the contract of
-//! `cell_contract`.
+//! The triple buffer: one word and three slots of one table, that two threads share without waiting. It meets the
+//! contract of `cell_contract`.
 //!
-//! The rule that its word and slots keep between any two steps stands in `specs/Rule.antt`, and `laws` says what it means.
+//! The rule that its word and slots keep between any two steps stands in `specs/Rule.antt`,
+//! and `laws` says what it means.
 #![tactic(auto)]
 
 mod calls;

@@ -1,5 +1,6 @@
 //! What each step tells.
-ghost use Rattle.cell_triple.specs.Steps.{put_took, get_took, put_swapped, looked, get_swapped, receipt_for, hears_of, whole_of};
+ghost use Rattle.cell_triple.specs.Steps.{put_took, get_took, put_swapped, looked, get_swapped};
+ghost use Rattle.cell_triple.specs.Steps.{receipt_for, hears_of, whole_of};
 ghost use Rattle.cell_contract.specs.declared.sight.Sight.TheVariants.{Spent};
 
 use crate::notes::TripleSight;

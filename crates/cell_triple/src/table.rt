@@ -1,5 +1,6 @@
-//! The table of a triple buffer and every step on it. No other module can reach the table: what stands here is all that can be
-//! done with it. A step on the word is one function, whose `Play` tells the seat's view what it did and raises the pass's count.
+//! The table of a triple buffer and every step on it. No other module can reach the table: what stands here is all
+//! that can be done with it. A step on the word is one function, whose `Play` tells the seat's view what it did
+//! and raises the pass's count.
 ghost use Rattle.std.specs.Prelude.{◌≡◌, ℕ, ◌+◌, [], ◌∷◌, IfOk};
 ghost use Rattle.std.specs.Fn.{FnOnceTakesAt, FnOnceReturnsAt};
 ghost use mathlib.Core.Option.{none};
@@ -7,7 +8,8 @@ ghost use Rattle.std.specs.declared.snapshot.Snapshot.{Snapshot};
 ghost use Rattle.atomic_table.specs.Table.{step};
 ghost use Rattle.cell_contract.specs.Running.{last_or, Settled, held_slots};
 ghost use Rattle.cell_contract.specs.Sights.{writer_part, reader_part};
-ghost use Rattle.cell_triple.specs.Steps.{put_took, get_took, put_swapped, looked, get_swapped, first_sight, receipt_for, hears_of};
+ghost use Rattle.cell_triple.specs.Steps.{put_took, get_took, put_swapped, looked, get_swapped};
+ghost use Rattle.cell_triple.specs.Steps.{first_sight, receipt_for, hears_of};
 ghost use Rattle.cell_triple.specs.Steps.{whole_of};
 ghost use Rattle.cell_triple.specs.Rule.{IsTimed};
 ghost use Rattle.cell_contract.specs.Intervals.{AreFirst};
@@ -41,7 +43,8 @@ impl<T: Lawful> TripleTable<T> {
     pub(crate) fn new(alloc: Global, first: &T) -> Result<(Self, TripleSeat<T>), AllocError>
         requires { T.fits first.now }
         ensures key { IfOk result (λ r. r.0.inner.shared.key ≡ first.now) }
-        ensures seat { IfOk result (λ r. (r.1.inner.table_id ≡ r.0.inner.shared.table_id) × (r.1.inner.me ≡ (first_sight first.now, []))) }
+        ensures seat { IfOk result (λ r. (r.1.inner.table_id ≡ r.0.inner.shared.table_id)
+            × (r.1.inner.me ≡ (first_sight first.now, []))) }
     {
         let mut slots = Vec::new(alloc);
         slots.push(*first).map_err(|_| AllocError)?;
@@ -55,7 +58,8 @@ impl<T: Lawful> TripleTable<T> {
     pub(crate) fn part(&self, seat: &mut TripleSeat<T>) -> TripleSeat<T>
         requires own { seat.old.inner.table_id ≡ self.now.inner.shared.table_id }
         requires whole { (p : WriterNotes T) × (g : ReaderNotes T) × (seat.old.inner.me.0 ≡ Both p g) }
-        ensures own { (seat.new.inner.table_id ≡ seat.old.inner.table_id) × (result.inner.table_id ≡ seat.old.inner.table_id) }
+        ensures own { (seat.new.inner.table_id ≡ seat.old.inner.table_id)
+            × (result.inner.table_id ≡ seat.old.inner.table_id) }
         ensures parted { (seat.new.inner.me ≡ (writer_part seat.old.inner.me.0, seat.old.inner.me.1))
             × (result.inner.me ≡ (reader_part seat.old.inner.me.0, [])) }
     {
@@ -67,8 +71,10 @@ impl<T: Lawful> TripleTable<T> {
     pub(crate) fn tell(&self, seat: &mut TripleSeat<T>) -> TripleSeat<T>
         requires own { seat.old.inner.table_id ≡ self.now.inner.shared.table_id }
         requires writer { (p : WriterNotes T) × (seat.old.inner.me.0 ≡ Writer p) }
-        ensures own { (seat.new.inner.table_id ≡ seat.old.inner.table_id) × (result.inner.table_id ≡ seat.old.inner.table_id) }
-        ensures parted { (seat.new.inner.me ≡ seat.old.inner.me) × (result.inner.me ≡ (receipt_for seat.old.inner.me.0, [])) }
+        ensures own { (seat.new.inner.table_id ≡ seat.old.inner.table_id)
+            × (result.inner.table_id ≡ seat.old.inner.table_id) }
+        ensures parted { (seat.new.inner.me ≡ seat.old.inner.me)
+            × (result.inner.me ≡ (receipt_for seat.old.inner.me.0, [])) }
     {
         let parted = self.inner.shared.split_seat::<Tells>(&mut seat.inner);
         TripleSeat { inner: parted }
@@ -120,7 +126,8 @@ impl<T: Lawful> TripleTable<T> {
             Settled (self.inner.shared.key ∷ p.written) g.answers }
         ensures timed { (p : WriterNotes T) (g : ReaderNotes T) → seat.inner.me.0 ≡ Both p g →
             (now : ℕ) × IsTimed self.inner.shared.key p g now }
-        ensures known { (p : WriterNotes T) (g : ReaderNotes T) → seat.inner.me.0 ≡ Both p g → AreFirst g.known p.written p.times }
+        ensures known { (p : WriterNotes T) (g : ReaderNotes T) → seat.inner.me.0 ≡ Both p g →
+            AreFirst g.known p.written p.times }
     {
         let TripleTable { inner: table } = self;
         let TripleSeat { inner: seat } = seat;
@@ -153,10 +160,11 @@ impl<T: Lawful> TripleTable<T> {
     #[inline]
     pub(crate) fn publish(&self, seat: &mut TripleSeat<T>, new: u64) -> u64
         requires own { seat.old.inner.table_id ≡ self.now.inner.shared.table_id }
-        requires filled { (p : WriterNotes T) × (x : T) × (seat.old.inner.me ≡ (Writer p, (p.slot, x) ∷ [])) × (p.has ≡ 1) × T.fits x
-            × T.rises (last_or p.opening.value p.written) x × (new ≡ p.slot + 4) }
+        requires filled { (p : WriterNotes T) × (x : T) × (seat.old.inner.me ≡ (Writer p, (p.slot, x) ∷ []))
+            × (p.has ≡ 1) × T.fits x × T.rises (last_or p.opening.value p.written) x × (new ≡ p.slot + 4) }
         ensures own { seat.new.inner.table_id ≡ seat.old.inner.table_id }
-        ensures swapped { put_swapped (step self.now.inner.shared.table_id.slots 0 new 0 none) seat.old.inner.me result seat.new.inner.me }
+        ensures swapped { put_swapped (step self.now.inner.shared.table_id.slots 0 new 0 none)
+            seat.old.inner.me result seat.new.inner.me }
     {
         self.inner.shared.swap::<PutSwaps>(&mut seat.inner, 0, new)
     }
@@ -173,15 +181,17 @@ impl<T: Lawful> TripleTable<T> {
         self.inner.shared.load::<Looks>(&mut seat.inner, 0)
     }
 
-    /// The reader's swap, where its load found the mark: its slot goes into the middle, and it takes the slot that was there.
+    /// The reader's swap, where its load found the mark: its slot goes into the middle, and it
+    /// takes the slot that was there.
     #[inline]
     pub(crate) fn fetch(&self, seat: &mut TripleSeat<T>, new: u64) -> u64
         requires own { seat.old.inner.table_id ≡ self.now.inner.shared.table_id }
-        requires marked { (g : ReaderNotes T) × (seat.old.inner.me ≡ (Reader g, (g.slot, g.at_hand.value) ∷ [])) × (g.has ≡ 1)
+        requires marked { (g : ReaderNotes T)
+            × (seat.old.inner.me ≡ (Reader g, (g.slot, g.at_hand.value) ∷ [])) × (g.has ≡ 1)
             × (g.asked ≡ 1) × (new ≡ g.slot) }
         ensures own { seat.new.inner.table_id ≡ seat.old.inner.table_id }
-        ensures swapped { get_swapped T.fits T.rises (step self.now.inner.shared.table_id.slots 0 new 0 none) seat.old.inner.me
-            result seat.new.inner.me }
+        ensures swapped { get_swapped T.fits T.rises
+            (step self.now.inner.shared.table_id.slots 0 new 0 none) seat.old.inner.me result seat.new.inner.me }
     {
         self.inner.shared.swap::<GetSwaps>(&mut seat.inner, 0, new)
     }
@@ -222,7 +232,8 @@ impl<T: Lawful> TripleTable<T> {
         requires callable { (x : T) → seat.old.inner.me.1 ≡ (slot, x) ∷ [] → FnOnceTakesAt F.FnOnce look x }
         ensures own { seat.new.inner.table_id ≡ seat.old.inner.table_id }
         ensures same { seat.new.inner.me ≡ seat.old.inner.me }
-        ensures seen { (item : T) × (seat.old.inner.me.1 ≡ (slot, item) ∷ []) × FnOnceReturnsAt F.FnOnce look item result }
+        ensures seen { (item : T) × (seat.old.inner.me.1 ≡ (slot, item) ∷ [])
+            × FnOnceReturnsAt F.FnOnce look item result }
     {
         look(&*seat.inner.slot_mut(&self.inner.shared, slot))
     }

@@ -145,7 +145,8 @@ fn make_tasks<'a, F: Family<Posted<Item>>>(
     count: usize,
 ) -> Result<Vec<CachePadded<Task<'a, F>>>, AllocError>
     requires { All (IsPass ⟦<F as Family<Posted<Item>>>⟧ no_law board.now) passes.items }
-    ensures { IfOk result (λ tasks. All (λ t. IsPass ⟦<F as Family<Posted<Item>>>⟧ no_law t.value.board.now t.value.pass) tasks.items) }
+    ensures { IfOk result
+        (λ tasks. All (λ t. IsPass ⟦<F as Family<Posted<Item>>>⟧ no_law t.value.board.now t.value.pass) tasks.items) }
 {
     let mut tasks = Vec::with_capacity(alloc, count)?;
     for _ in 0..count {

@@ -1,5 +1,6 @@
-//! Measures the running cells and boards. `list` names them with their record sizes. `run` measures them all once and prints lines
-//! `impl,record_bytes,mode,metric,value`. `count IMPL BYTES OP N` makes one cell or board and N calls, for a counter of instructions.
+//! Measures the running cells and boards. `list` names them with their record sizes. `run` measures them all once and
+//! prints lines `impl,record_bytes,mode,metric,value`. `count IMPL BYTES OP N` makes one cell or board and N calls,
+//! for a counter of instructions.
 #![tactic(auto)]
 
 mod boards;
@@ -127,7 +128,8 @@ fn cell<R: Clock + Print + Threads + Sync>(
     }
 }
 
-/// (Each call that names a cell's type is dear to prove: so one stands here for all sizes, and for measures as for calls.)
+/// (Each call that names a cell's type is dear to prove: so one stands here for all sizes,
+/// and for measures as for calls.)
 fn of_words<R: Clock + Print + Threads + Sync, W: Shared>(
     rt: &R,
     alloc: Global,

@@ -103,7 +103,8 @@ module _ {R : Type 0} where
   slot_by b i (Some line) =
       if nat_lt (line.done + 1) (board_size b)
       then heard_slot (slice_get b.cells (cell_place (board_size b) (other i line.done) i))
-      else posted_slot line.own (slice_get b.cells (cell_place (board_size b) i (other i (line.done + 1 - board_size b))))
+      else posted_slot line.own
+      (slice_get b.cells (cell_place (board_size b) i (other i (line.done + 1 - board_size b))))
 
   -- the slot that the next step of process i chooses, if it chooses one
   abbrev pub slot_of : Board R → ℕ → Option ℕ

@@ -59,11 +59,13 @@ module _ {R : Type 0} where
     pub fresh : (i j write read : ℕ) → other i write ≡ j → write + 1 < length term.plans → other j read ≡ i →
         read + 1 < length term.plans
         → (m : ℕ) → IsSome ((column_accesses at (board_span term) slot j read).at m 4)
-        → (n : ℕ) × IsFreshRead (row_accesses at (board_span term) slot i write) (column_accesses at (board_span term) slot j read) m n
+        → (n : ℕ) × IsFreshRead (row_accesses at (board_span term) slot i write)
+        (column_accesses at (board_span term) slot j read) m n
         × (slice_get (cell_trace at (board_span term) opening noise chosen i j).answers m
         ≡ Some (source_record (first_record opening) (chosen i) n))
     pub safe : (i j : ℕ) →
-        IsOverSafeSlots (first_record opening) (noise_record noise) (chosen i) (cell_trace at (board_span term) opening noise chosen i j)
+        IsOverSafeSlots (first_record opening) (noise_record noise) (chosen i)
+        (cell_trace at (board_span term) opening noise chosen i j)
     pub choices : List (Choice R)
     pub chose : HasChoices opening term.limit part.ops part.stamps choices
     pub order : IsInOrder part.ops part.stamps part.order

@@ -106,6 +106,7 @@ module _ {R : Type 0} where
         chooses_at at span 5 op.who k ≡ None → op.kind ≢ Refused
     pub unfinished : (p : ℕ) (op : Op R) → slice_get ops p ≡ Some op → op.ends ≡ None → op.kind ≢ Write → op.item ≡ None
     pub row_slots : (i write k : ℕ) →
-        slot i k (length span.plans - 1 + write) ≡ slice_get (cell_trace at span opening noise chosen i (other i write)).write_slots k
+        slot i k (length span.plans - 1 + write)
+        ≡ slice_get (cell_trace at span opening noise chosen i (other i write)).write_slots k
     pub column_slots : (j read k : ℕ) → read + 1 < length span.plans →
         slot j k read ≡ slice_get (cell_trace at span opening noise chosen (other j read) j).read_slots k

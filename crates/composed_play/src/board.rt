@@ -8,7 +8,8 @@ ghost use Rattle.matrix_core.specs.declared.stamp.Stamped.{Stamped};
 ghost use Rattle.matrix_core.specs.declared.progress.Progress.{Progress};
 ghost use Rattle.matrix_core.specs.Lines.{first_record};
 ghost use Rattle.matrix_core.specs.inner.Operations.{greatest_own};
-ghost use Rattle.composed_play.specs.BoardEvents.{after_event, Board, board_size, heard, IsBoard, opening_board, posted, read_slot};
+ghost use Rattle.composed_play.specs.BoardEvents.{after_event, Board, board_size, heard, IsBoard};
+ghost use Rattle.composed_play.specs.BoardEvents.{opening_board, posted, read_slot};
 ghost use Rattle.composed_play.specs.BoardEvents.{slot_of};
 ghost use Rattle.composed_play.specs.BoardEvents.{write_slot};
 

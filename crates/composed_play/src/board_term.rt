@@ -1,6 +1,7 @@
 //! The player: a schedule over a composed board, control step by control step.
 
-ghost use Rattle.std.specs.Prelude.{◌≡◌, ◌+◌, ◌-◌, ◌*◌, ◌/◌, ◌<◌, ◌≤◌, ◌^◌, ◌++◌, ℕ, List, length, replicate, vec_len, IfOk, IsSome, OnOk};
+ghost use Rattle.std.specs.Prelude.{◌≡◌, ◌+◌, ◌-◌, ◌*◌, ◌/◌, ◌<◌, ◌≤◌, ◌^◌, ◌++◌, ℕ, List, length, replicate};
+ghost use Rattle.std.specs.Prelude.{vec_len, IfOk, IsSome, OnOk};
 ghost use Rattle.std.specs.Prelude.{Option, None, Some, slice_get, slice_set};
 ghost use Rattle.history_core.specs.Schedules.{max_limit, Overruns};
 ghost use Rattle.matrix_core.specs.inner.Operations.{begun_op};
@@ -76,11 +77,19 @@ impl<R> Model for BoardPlay<R> {
     ghost Value = { BoardPlaying R };
 
     ghost view = { λ p.
-        record { board = p.board; now = p.now; seats = p.seats.items; ops = p.ops.items; stamps = p.stamps.items; slots = p.slots.items } };
+        record {
+          board = p.board;
+          now = p.now;
+          seats = p.seats.items;
+          ops = p.ops.items;
+          stamps = p.stamps.items;
+          slots = p.slots.items;
+        } };
 }
 
 impl<R: Copy> BoardPlay<R> {
-    ghost use Rattle.composed_play.specs.inner.BoardPlays.{after_board_step, CanHappen, CanStep, happened, next_board_opening};
+    ghost use Rattle.composed_play.specs.inner.BoardPlays.{after_board_step, CanHappen, CanStep};
+    ghost use Rattle.composed_play.specs.inner.BoardPlays.{happened, next_board_opening};
     ghost use Rattle.composed_play.specs.inner.BoardPlays.{opened_first};
     ghost use Rattle.composed_play.specs.inner.BoardPlays.{opening_board_play, wish_now};
 

@@ -1,4 +1,5 @@
-//! A sensor task publishes limits and a reading, and a control loop reads them. Each runs in a thread of its own until it is told to stop.
+//! A sensor task publishes limits and a reading, and a control loop reads them. Each runs in a thread of its
+//! own until it is told to stop.
 #![tactic(auto)]
 
 ghost use Rattle.std.specs.Prelude.{◌≡◌, ◌≤◌, IfOk};
@@ -119,12 +120,13 @@ fn publish<C: Cell<Sample>>(cell: &C, task: &mut Sensor<C>, orders: &Orders)
     }
 }
 
-/// The control loop takes the cell's sample at each turn, until it is told to stop. It steers by the cell's last answer, which is whole
-/// and no older than the one before.
+/// The control loop takes the cell's sample at each turn, until it is told to stop. It steers by the cell's last
+/// answer, which is whole and no older than the one before.
 fn steer<R: Wait, C: Cell<Sample>>(rt: &R, cell: &C, task: &mut Control<C>, orders: &Orders)
     requires own { C.is_get cell.now task.old.get }
     requires last { task.old.sample ≡ last_or (C.opening cell.now) (C.answers task.old.get) }
-    requires whole { (task.old.sample.low ≤ task.old.sample.reading) × (task.old.sample.reading ≤ task.old.sample.high) }
+    requires whole { (task.old.sample.low ≤ task.old.sample.reading)
+        × (task.old.sample.reading ≤ task.old.sample.high) }
     ensures own { C.is_get cell.now task.new.get }
     ensures last { task.new.sample ≡ last_or (C.opening cell.now) (C.answers task.new.get) }
     ensures whole { (task.new.sample.low ≤ task.new.sample.reading) × (task.new.sample.reading ≤ task.new.sample.high) }
@@ -156,7 +158,8 @@ where
     requires written { (last_or (C.opening cell.now) (C.written sensor.old.put)).number ≡ sensor.old.number }
     requires first { sensor.old.number ≡ 0 }
     requires read { loops.old.sample ≡ last_or (C.opening cell.now) (C.answers loops.old.get) }
-    requires whole { (loops.old.sample.low ≤ loops.old.sample.reading) × (loops.old.sample.reading ≤ loops.old.sample.high) }
+    requires whole { (loops.old.sample.low ≤ loops.old.sample.reading)
+        × (loops.old.sample.reading ≤ loops.old.sample.high) }
     ensures own { C.is_put cell.now sensor.new.put × C.is_get cell.now loops.new.get }
     ensures written { (last_or (C.opening cell.now) (C.written sensor.new.put)).number ≡ sensor.new.number }
     ensures read { loops.new.sample ≡ last_or (C.opening cell.now) (C.answers loops.new.get) }
@@ -168,20 +171,22 @@ where
                 × ((last_or (C.opening cell.now) (C.written sensor.now.put)).number ≡ sensor.now.number)
                 × (sensor.now.number ≡ 0) }
             ensures { C.is_put cell.entry.now sensor.exit.now.put
-                × ((last_or (C.opening cell.entry.now) (C.written sensor.exit.now.put)).number ≡ sensor.exit.now.number) }
+                × ((last_or (C.opening cell.entry.now) (C.written sensor.exit.now.put)).number
+                ≡ sensor.exit.now.number) }
         { publish(cell, sensor, orders) },
         &mut ||
             requires { C.is_get cell.now loops.now.get
                 × (loops.now.sample ≡ last_or (C.opening cell.now) (C.answers loops.now.get))
-                × (loops.now.sample.low ≤ loops.now.sample.reading) × (loops.now.sample.reading ≤ loops.now.sample.high) }
+                × (loops.now.sample.low ≤ loops.now.sample.reading)
+                × (loops.now.sample.reading ≤ loops.now.sample.high) }
             ensures { C.is_get cell.entry.now loops.exit.now.get
                 × (loops.exit.now.sample ≡ last_or (C.opening cell.entry.now) (C.answers loops.exit.now.get)) }
         { steer(rt, cell, loops, orders) },
     );
 }
 
-/// Runs both tasks until each has taken 1,000 turns or more. Then the sensor's receipt says "no older than this", and the control loop's
-/// next answer isn't. Gives the number of the last sample that was written, and this answer.
+/// Runs both tasks until each has taken 1,000 turns or more. Then the sensor's receipt says "no older than this", and
+/// the control loop's next answer isn't. Gives the number of the last sample that was written, and this answer.
 fn told<R: Threads + Wait + Sync + Copy + Send + 'static, C: Cell<Sample>>(
     rt: R,
     alloc: Global,

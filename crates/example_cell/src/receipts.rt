@@ -1,5 +1,5 @@
-//! What the time of a cell's calls buys one task: a read that begins after a receipt was learnt gives the very record that the
-//! receipt names, where no later one was written, whatever the law of the records says.
+//! What the time of a cell's calls buys one task: a read that begins after a receipt was learnt gives the very record
+//! that the receipt names, where no later one was written, whatever the law of the records says.
 ghost use Rattle.std.specs.Prelude.{◌≡◌};
 ghost use Rattle.cell_contract.specs.Intervals.{IsNoOlder};
 ghost use Rattle.cell_contract.specs.Running.{last_or};
@@ -22,8 +22,8 @@ pub fn heard<T: Lawful, C: Calls<T>>(cell: C, put: C::Put, get: C::Get, item: T)
     answer
 }
 
-/// Tells of all that was written, learns of it, and reads twice. The cell goes on, and yet both answers were really written: each is the
-/// last record of that time, or one written after it.
+/// Tells of all that was written, learns of it, and reads twice. The cell goes on, and yet both answers were really
+/// written: each is the last record of that time, or one written after it.
 pub fn followed<T: Lawful, C: Calls<T>>(cell: &C, put: &mut C::Put, get: &mut C::Get) -> (T, T)
     requires { C.is_put cell.now put.old × C.is_get cell.now get.old }
     ensures own { C.is_put cell.now put.new × C.is_get cell.now get.new }

@@ -12,7 +12,8 @@ use Rattle.board_live.specs.declared.record.Posted.{Posted}
 use Rattle.board_live.specs.Ends.{AllPasses, did_by, HaveAtomicOrder}
 use Rattle.board_live.specs.Passes.{HasMade, IsPass}
 use Rattle.example_control.specs.declared.control.Control.{Control}
-use Rattle.example_control.specs.Turns.{AreDealt, Drives, HasControlled, HasCrossed, HasTakenTurns, HasSteered, in_order, IsFresh, Publishes}
+use Rattle.example_control.specs.Turns.{AreDealt, Drives, HasControlled, HasCrossed, HasTakenTurns}
+use Rattle.example_control.specs.Turns.{HasSteered, in_order, IsFresh, Publishes}
 use Rattle.example_control.specs.Turns.{SetsLimits}
 use Rattle.example_control.proofs.Runs.{of_reads, of_turns}
 

@@ -42,12 +42,13 @@ module _ {M : Type 0} (was_sent : M → ℕ → M → Type 0) where
   -- the calls are reads, and the motor was sent the command of each record that they gave, in turn
   abbrev pub Drives : M → List (Called Control) → M → Type 0
   Drives before [] after = after ≡ before
-  Drives before (c ∷ cs) after = (next : M) × (c.kind ≡ Read) × was_sent before (command_of c.chosen.item) next × Drives next cs after
+  Drives before (c ∷ cs) after = (next : M) × (c.kind ≡ Read) × was_sent before (command_of c.chosen.item) next
+      × Drives next cs after
 
 module _ {F S T : Type 0} (words : FamilyWords F (Posted Control) S T) where
   -- a call, with its interval, what it saw and what it chose
-  abbrev pub call_of : (board : Board Control F S T) (kind : Kind) (old new : Pass Control F S T) (seen : Posted Control)
-      → IsCall words in_order board kind old new seen → Called Control
+  abbrev pub call_of : (board : Board Control F S T) (kind : Kind) (old new : Pass Control F S T)
+      (seen : Posted Control) → IsCall words in_order board kind old new seen → Called Control
   call_of board kind old new seen c = record {
     begin = c.begin;
     end = c.end;
@@ -79,7 +80,8 @@ module _ {F S T : Type 0} (words : FamilyWords F (Posted Control) S T) where
 
   -- the two calls of a turn, after those before
   abbrev pub with_turn : (board : Board Control F S T) (make : Control → Control) (old new : Pass Control F S T)
-      (result : Result Stamp (Refused Control)) → List (Called Control) → TakesTurn board make old new result → List (Called Control)
+      (result : Result Stamp (Refused Control)) → List (Called Control) → TakesTurn board make old new result →
+      List (Called Control)
   with_turn board make old new result calls t =
       (calls ++ call_of board Read old t.between t.between.own t.reads.call ∷ [])
       ++ call_of board (kind_of result) t.between new t.writes.seen t.writes.call ∷ []
@@ -108,19 +110,20 @@ module _ {F S T : Type 0} (words : FamilyWords F (Posted Control) S T) where
         HasReadInTurn board old calls now → (r : MakesRead board now new)
         → HasReadInTurn board old (calls ++ call_of board Read now new new.own r.call ∷ []) new
 
-  -- *The turns of a control loop*: one read or more and no other call, and the motor was sent the command of each of them
-  pub record HasSteered {M : Type 0} (was_sent : M → ℕ → M → Type 0) (board : Board Control F S T) (old new : Pass Control F S T)
-      (before after : M) : Type 0 where
+  -- *The turns of a control loop*: one read or more and no other call, and the motor was
+  -- sent the command of each of them
+  pub record HasSteered {M : Type 0} (was_sent : M → ℕ → M → Type 0) (board : Board Control F S T)
+      (old new : Pass Control F S T) (before after : M) : Type 0 where
     pub calls : List (Called Control)
     pub reads : HasReadInTurn board old calls new
     pub drives : Drives was_sent before calls after
     pub some : 0 < length calls
 
-  -- *The whole run*: the motor was sent the commands of the third task's reads, in turn, and all calls of the three tasks are an atomic run
-  -- of their board, which opened with this record: by an order that keeps the intervals, each read has the record that was written last
-  -- before it, or the opening
-  pub record HasControlled {M : Type 0} (was_sent : M → ℕ → M → Type 0) (opening : Control) (last : Posted Control) (before after : M)
-      : Type 0 where
+  -- *The whole run*: the motor was sent the commands of the third task's reads, in turn, and all calls of the three
+  -- tasks are an atomic run of their board, which opened with this record: by an order that keeps the intervals, each
+  -- read has the record that was written last before it, or the opening
+  pub record HasControlled {M : Type 0} (was_sent : M → ℕ → M → Type 0) (opening : Control) (last : Posted Control)
+      (before after : M) : Type 0 where
     pub board : Board Control F S T
     pub opened : board.first ≡ record { stamp = first_stamp; item = opening }
     pub limited : board.limit ≡ 18446744073709551614
@@ -130,15 +133,15 @@ module _ {F S T : Type 0} (words : FamilyWords F (Posted Control) S T) where
     pub run : IsAtomicRun words board did last
 
 -- a pass of this process with which no call was made yet
-pub record IsFresh {V F S T : Type 0} (words : FamilyWords F (Posted V) S T) (obeys : V → Bool) (board : Board V F S T) (process : ℕ)
-    (pass : Pass V F S T) : Type 0 where
+pub record IsFresh {V F S T : Type 0} (words : FamilyWords F (Posted V) S T) (obeys : V → Bool)
+    (board : Board V F S T) (process : ℕ) (pass : Pass V F S T) : Type 0 where
   pub of : IsPass words obeys board pass
   pub who : pass.process ≡ process
   pub none : HasMade words board pass []
 
 -- what three tasks begin with: a board that opened with this record, and the fresh passes of all
-pub record AreDealt {F S T : Type 0} (words : FamilyWords F (Posted Control) S T) (opening : Control) (board : Board Control F S T)
-    (p q r : Pass Control F S T) : Type 0 where
+pub record AreDealt {F S T : Type 0} (words : FamilyWords F (Posted Control) S T) (opening : Control)
+    (board : Board Control F S T) (p q r : Pass Control F S T) : Type 0 where
   pub opened : board.first ≡ record { stamp = first_stamp; item = opening }
   pub limited : board.limit ≡ 18446744073709551614
   pub three : board.processes ≡ 3
@@ -146,9 +149,10 @@ pub record AreDealt {F S T : Type 0} (words : FamilyWords F (Posted Control) S T
   pub readings : IsFresh words in_order board 1 q
   pub steering : IsFresh words in_order board 2 r
 
--- *A receipt that crossed*: the two calls of two processes, of which the read began after the write had ended, are an atomic run
-pub record HasCrossed {V F S T : Type 0} (words : FamilyWords F (Posted V) S T) (board : Board V F S T) (item : V) (last : Posted V)
-    : Type 0 where
+-- *A receipt that crossed*: the two calls of two processes, of which the read began after the write
+-- had ended, are an atomic run
+pub record HasCrossed {V F S T : Type 0} (words : FamilyWords F (Posted V) S T) (board : Board V F S T)
+    (item : V) (last : Posted V) : Type 0 where
   pub did : ℕ → Did V
   pub write : Called V
   pub read : Called V

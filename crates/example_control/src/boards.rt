@@ -29,7 +29,8 @@ pub fn two_boards<F: Family<Posted<Control>>>(
     Ok(Some([first, second]))
 }
 
-/// The last record of a board of two processes, of which one has written, told and ended; none where its tags have ended.
+/// The last record of a board of two processes, of which one has written, told and ended;
+/// none where its tags have ended.
 pub fn last_of_two<F: Family<Posted<Control>>>(
     alloc: Global,
 ) -> Result<Option<Posted<Control>>, AllocError> {

@@ -21,7 +21,8 @@ pub fn set_limits<F: Family<Posted<Control>>>(
     requires limits { low ≤ high }
     ensures pass { IsPass ⟦<F as Family<Posted<Control>>>⟧ in_order board.now pass.new }
     ensures process { pass.new.process ≡ pass.old.process }
-    ensures turn { TakesTurn ⟦<F as Family<Posted<Control>>>⟧ board.now (with_limits low high) pass.old pass.new result }
+    ensures turn { TakesTurn ⟦<F as Family<Posted<Control>>>⟧ board.now
+        (with_limits low high) pass.old pass.new result }
 {
     let reading = board.read(pass).item.reading;
     board.write(pass, Control { low, reading, high })
@@ -36,7 +37,8 @@ pub fn publish<F: Family<Posted<Control>>>(
     requires { IsPass ⟦<F as Family<Posted<Control>>>⟧ in_order board.now pass.old }
     ensures pass { IsPass ⟦<F as Family<Posted<Control>>>⟧ in_order board.now pass.new }
     ensures process { pass.new.process ≡ pass.old.process }
-    ensures turn { TakesTurn ⟦<F as Family<Posted<Control>>>⟧ board.now (with_reading reading) pass.old pass.new result }
+    ensures turn { TakesTurn ⟦<F as Family<Posted<Control>>>⟧ board.now
+        (with_reading reading) pass.old pass.new result }
 {
     let Control {
         low,
@@ -70,7 +72,8 @@ pub fn publish_and_tell<F: Family<Posted<Control>>>(
     requires { IsPass ⟦<F as Family<Posted<Control>>>⟧ in_order board.now pass.old }
     ensures pass { IsPass ⟦<F as Family<Posted<Control>>>⟧ in_order board.now pass.new }
     ensures process { pass.new.process ≡ pass.old.process }
-    ensures receipt { IfOk result (λ r. IsReceipt ⟦<F as Family<Posted<Control>>>⟧ board.now r × (r.from ≡ pass.old.process)) }
+    ensures receipt { IfOk result (λ r. IsReceipt ⟦<F as Family<Posted<Control>>>⟧ board.now r
+        × (r.from ≡ pass.old.process)) }
     ensures names { IfOk result (λ r. r.item ≡ pass.new.own) }
 {
     publish(board, pass, reading)?;

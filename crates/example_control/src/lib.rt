@@ -1,5 +1,5 @@
-//! The tasks of a control program over a board: one sets limits, one publishes a reading, one steers a motor by both. They run in threads
-//! until they are told to stop, or call in turn, over any family of registers.
+//! The tasks of a control program over a board: one sets limits, one publishes a reading, one steers a motor by both.
+//! They run in threads until they are told to stop, or call in turn, over any family of registers.
 #![tactic(auto)]
 
 mod boards;

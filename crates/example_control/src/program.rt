@@ -148,9 +148,8 @@ impl<F: Family<Posted<Control>>> Drop for Stop<F> {
     }
 }
 
-/// Runs the three tasks until each has begun so many turns, tells them to stop, and ends the board. Gives its last record and the motor as
-/// it
-/// then is, or none where a task has kept the board.
+/// Runs the three tasks until each has begun so many turns, tells them to stop, and ends the board. Gives its last
+/// record and the motor as it then is, or none where a task has kept the board.
 pub fn run<
     R: Threads + Wait + Copy + Send + 'static,
     F: SharedFamily<Posted<Control>> + 'static,
@@ -165,7 +164,8 @@ pub fn run<
 where
     F::Seat: Send + 'static,
     F::Receipt: Send + 'static,
-    ensures { IfOk result (λ r. IfSome r (λ end. HasControlled ⟦<F as Family<Posted<Control>>>⟧ M.was_sent opening end.0 motor end.1)) }
+    ensures { IfOk result
+        (λ r. IfSome r (λ end. HasControlled ⟦<F as Family<Posted<Control>>>⟧ M.was_sent opening end.0 motor end.1)) }
 {
     let (board, limits, readings, steering) = deal::<F>(alloc, opening)?;
     let shared = Arc::new(alloc, Shared::new(board))?;

@@ -6,8 +6,9 @@ use board_live::{Board, Pass, Posted, RecordLaw};
 use cell_contract::Family;
 use std::alloc::{AllocError, Global};
 
-/// With the fresh passes of a board of two processes one writes and tells, the other learns and reads, and the board ends: the read began
-/// after the write had ended, and the two calls are atomic by their intervals. None where the tags have ended.
+/// With the fresh passes of a board of two processes one writes and tells, the other learns and reads, and
+/// the board ends: the read began after the write had ended, and the two calls are atomic by their intervals.
+/// None where the tags have ended.
 pub fn ends_in_order<V: RecordLaw, F: Family<Posted<V>>>(
     alloc: Global,
     board: Board<V, F>,

@@ -124,7 +124,8 @@ fn control<R: Wait, F: Family<Posted<Control>>, M: Motor>(
     motor: &mut M,
 )
     requires { IsPass ⟦<F as Family<Posted<Control>>>⟧ in_order shared.now.board pass.old }
-    ensures { HasSteered ⟦<F as Family<Posted<Control>>>⟧ M.was_sent shared.now.board pass.old pass.new motor.old motor.new }
+    ensures { HasSteered ⟦<F as Family<Posted<Control>>>⟧ M.was_sent shared.now.board pass.old pass.new
+        motor.old motor.new }
 {
     for _ in rt.forever() {
         let command = steer(&shared.board, pass);
@@ -149,7 +150,8 @@ impl<F: Family<Posted<Control>>> Task for LimitsTask<F> {
 
     ghost ready = { λ t. IsPass ⟦<F as Family<Posted<Control>>>⟧ in_order (arc_value t.shared).board t.pass };
 
-    ghost done = { λ t r. HasTakenTurns ⟦<F as Family<Posted<Control>>>⟧ (arc_value t.shared).board SetsLimits t.pass r };
+    ghost done = { λ t r. HasTakenTurns ⟦<F as Family<Posted<Control>>>⟧
+        (arc_value t.shared).board SetsLimits t.pass r };
 
     fn run<R: Wait>(self, rt: &R) -> Pass<Control, F> {
         let Self { shared, mut pass } = self;
@@ -170,7 +172,8 @@ impl<F: Family<Posted<Control>>> Task for ReadingsTask<F> {
 
     ghost ready = { λ t. IsPass ⟦<F as Family<Posted<Control>>>⟧ in_order (arc_value t.shared).board t.pass };
 
-    ghost done = { λ t r. HasTakenTurns ⟦<F as Family<Posted<Control>>>⟧ (arc_value t.shared).board Publishes t.pass r };
+    ghost done = { λ t r. HasTakenTurns ⟦<F as Family<Posted<Control>>>⟧
+        (arc_value t.shared).board Publishes t.pass r };
 
     fn run<R: Wait>(self, rt: &R) -> Pass<Control, F> {
         let Self { shared, mut pass } = self;
@@ -192,7 +195,8 @@ impl<F: Family<Posted<Control>>, M: Motor + Drop> Task for SteeringTask<F, M> {
 
     ghost ready = { λ t. IsPass ⟦<F as Family<Posted<Control>>>⟧ in_order (arc_value t.shared).board t.pass };
 
-    ghost done = { λ t r. HasSteered ⟦<F as Family<Posted<Control>>>⟧ M.was_sent (arc_value t.shared).board t.pass r.0 t.motor r.1 };
+    ghost done = { λ t r. HasSteered ⟦<F as Family<Posted<Control>>>⟧ M.was_sent
+        (arc_value t.shared).board t.pass r.0 t.motor r.1 };
 
     fn run<R: Wait>(self, rt: &R) -> (Pass<Control, F>, M) {
         let Self {

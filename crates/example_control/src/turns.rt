@@ -24,7 +24,8 @@ fn set_limits_by<F: Family<Posted<Control>>>(
 ) -> Result<Stamp, Refused<Control>>
     requires all { AllPasses ⟦<F as Family<Posted<Control>>>⟧ in_order board.now passes.old.items }
     requires three { length passes.old.items ≡ 3 }
-    ensures { AllPasses ⟦<F as Family<Posted<Control>>>⟧ in_order board.now passes.new.items × (length passes.new.items ≡ 3) }
+    ensures { AllPasses ⟦<F as Family<Posted<Control>>>⟧ in_order board.now passes.new.items
+        × (length passes.new.items ≡ 3) }
 {
     set_limits(board, &mut passes[LIMITS], 10, 20)
 }
@@ -36,7 +37,8 @@ fn publish_by<F: Family<Posted<Control>>>(
 ) -> Result<Receipt<Control, F>, Refused<Control>>
     requires all { AllPasses ⟦<F as Family<Posted<Control>>>⟧ in_order board.now passes.old.items }
     requires three { length passes.old.items ≡ 3 }
-    ensures all { AllPasses ⟦<F as Family<Posted<Control>>>⟧ in_order board.now passes.new.items × (length passes.new.items ≡ 3) }
+    ensures all { AllPasses ⟦<F as Family<Posted<Control>>>⟧ in_order board.now passes.new.items
+        × (length passes.new.items ≡ 3) }
     ensures receipt { IfOk result (λ r. IsReceipt ⟦<F as Family<Posted<Control>>>⟧ board.now r × (r.from ≡ 1)) }
 {
     publish_and_tell(board, &mut passes[READING], 25)
@@ -51,7 +53,8 @@ fn steer_by<F: Family<Posted<Control>>>(
     requires all { AllPasses ⟦<F as Family<Posted<Control>>>⟧ in_order board.now passes.old.items }
     requires three { length passes.old.items ≡ 3 }
     requires receipt { IsReceipt ⟦<F as Family<Posted<Control>>>⟧ board.now receipt × (receipt.from ≡ 1) }
-    ensures { AllPasses ⟦<F as Family<Posted<Control>>>⟧ in_order board.now passes.new.items × (length passes.new.items ≡ 3) }
+    ensures { AllPasses ⟦<F as Family<Posted<Control>>>⟧ in_order board.now passes.new.items
+        × (length passes.new.items ≡ 3) }
 {
     steer_when_told(board, &mut passes[STEERING], receipt)
 }

@@ -225,8 +225,8 @@ module _ {T : Type 0} (plan : T → ℕ → ℕ → ℕ → ℕ → Doings T →
     pub seat_may_take : (b : Bool) (t : ℕ) (h : List ℕ) (count t2 : ℕ) (h2 : List ℕ) →
         let g : ReaderNotes T = (column_at f s own j other).notes in
         MayTake OfFamily cell
-        (knows Spent (knows Spent (known_by s) cell (Reader (asked_by g b t)) t h) cell (Reader (said_with (asked_by g b t) count t2)) t2 h2)
-        (said_with (asked_by g b t) count t2)
+        (knows Spent (knows Spent (known_by s) cell (Reader (asked_by g b t)) t h) cell
+        (Reader (said_with (asked_by g b t) count t2)) t2 h2) (said_with (asked_by g b t) count t2)
     seat_may_take b t h count t2 h2 =
         let g : ReaderNotes T = (column_at f s own j other).notes in
         subst (λ (z : T × ℕ × ℕ). MayTake (DoesAsPlanned plan z.0 (limit_of f) z.1) z.2

@@ -68,7 +68,8 @@ told_again {T} f t is inner table me =
     (is.one, is.row, is.elsewhere) in
     record { table = table ∙ is.table; processes = is.processes; inside = is.inside; one = rest.0; row = rest.1; elsewhere = rest.2 }
 
-pub same_told : {T : Type 0} (t : FourSlotReceipt T) (inner : FamilySeat T (FourSlotSight T)) → inner.inner.table_id ≡ t.seat.inner.table_id →
+pub same_told : {T : Type 0} (t : FourSlotReceipt T) (inner : FamilySeat T (FourSlotSight T)) →
+    inner.inner.table_id ≡ t.seat.inner.table_id →
     inner.inner.id ≡ t.seat.inner.id → inner.inner.me ≡ t.seat.inner.me → record t { seat = inner } ≡ t
 same_told t inner table id me =
     λ i. record t { seat = record inner { inner = record inner.inner { table_id = table i; id = id i; me = me i } } }

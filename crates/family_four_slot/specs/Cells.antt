@@ -1,4 +1,5 @@
--- A four-slot cell of a family: at the start two processes have its notes; a process at rest tells a receipt and learns one.
+-- A four-slot cell of a family: at the start two processes have its notes; a process at rest
+-- tells a receipt and learns one.
 use Rattle.std.proofs.Common.{◌≡◌, ℕ, Bool, true, false, nat_eq, cond, List, [], ◌∷◌, ◌++◌, set}
 use Rattle.std.proofs.Common.{refl, sym, subst, arith, ⊎_elim}
 use Rattle.std.proofs.lemmas.Bool.Decides.{nat_tests}
@@ -32,7 +33,8 @@ module _ {T : Type 0} (fits : T → Type 0) (rises : T → T → Type 0) (o : T)
       Rule now (record { words = s.words; homes = s.homes; views = s.views ++ Spent ∷ [] })
   one_more now s r = reseated_at fits rises o now s r r.0.writer r.0.reader (s.views ++ Spent ∷ []) (λ j v e. ⊎_elim
       (λ (h : get_elem? s.views j ≡ some v). r.0.each_seat j v h)
-      (λ (h : Spent ≡ v). subst (Sees o r.0.put r.0.get (shown_number fits rises o r.0) r.0.now r.0.writer r.0.reader j) h tt)
+      (λ (h : Spent ≡ v).
+      subst (Sees o r.0.put r.0.get (shown_number fits rises o r.0) r.0.now r.0.writer r.0.reader j) h tt)
       (at_snoc s.views Spent v j e))
 
   pub cell_tells : CellTells Rule Idle receipt_for
@@ -43,7 +45,8 @@ module _ {T : Type 0} (fits : T → Type 0) (rises : T → T → Type 0) (o : T)
   cell_tells now s id (Writer p) r at idle = tells_at fits rises o now s r id p idle at
 
   pub cell_hears : CellHears Rule Idle hears_of
-  cell_hears now s id other (Reader g) (Told x) r at there ne idle = hears_at fits rises o now s r id other g x idle at there ne
+  cell_hears now s id other (Reader g) (Told x) r at there ne idle =
+      hears_at fits rises o now s r id other g x idle at there ne
   cell_hears now s id other (Reader g) Spent r at there ne idle = stays now s r id (Reader g) at
   cell_hears now s id other (Reader g) (Writer p) r at there ne idle = stays now s r id (Reader g) at
   cell_hears now s id other (Reader g) (Reader h) r at there ne idle = stays now s r id (Reader g) at
@@ -54,12 +57,13 @@ module _ {T : Type 0} (fits : T → Type 0) (rises : T → T → Type 0) (o : T)
   cell_hears now s id other (Both p g) w r at there ne idle = stays now s r id (Both p g) at
 
   -- the cell k at the start, whose writer and reader are two of n processes
-  pub cell_starts : (n k : ℕ) (vs : List V) → fits o → ((j : ℕ) (v : V) → get_elem? vs j ≡ some v → v ≡ first_part o n j k) →
+  pub cell_starts : (n k : ℕ) (vs : List V) → fits o →
+      ((j : ℕ) (v : V) → get_elem? vs j ≡ some v → v ≡ first_part o n j k) →
       Rule 0 (record { words = 0 ∷ 0 ∷ 0 ∷ 0 ∷ []; homes = some o ∷ some o ∷ some o ∷ some o ∷ []; views = vs })
   cell_starts n k vs f first =
       parted_at fits rises o f (writer_of n k) (reader_of n k) vs
-      (λ j v e. subst (Sees o (first_writer o) (first_reader o) 0 0 (writer_of n k) (reader_of n k) j) (sym (first j v e))
-      (seen j (writer_of n k) (reader_of n k))) where
+      (λ j v e. subst (Sees o (first_writer o) (first_reader o) 0 0 (writer_of n k) (reader_of n k) j)
+      (sym (first j v e)) (seen j (writer_of n k) (reader_of n k))) where
         same_if : (a b : ℕ) → nat_eq a b ≡ true → a ≡ b
         same_if a b h = grind (arith, nat_tests)
 

@@ -21,8 +21,8 @@ use Rattle.family_four_slot.specs.Tables.{IsDone, Done}
 
 module _ {T : Type 0} (fits : T → Type 0) (rises : T → T → Type 0) (o : T) where
   -- one cell, with its writer's notes and its reader's
-  cell_done : (s : State T (FourSlotSight T)) (r : FourSlotRule fits rises o s) (i j : ℕ) (p : WriterNotes T) (g : ReaderNotes T) →
-      get_elem? s.views i ≡ some (Writer p) → get_elem? s.views j ≡ some (Reader g) →
+  cell_done : (s : State T (FourSlotSight T)) (r : FourSlotRule fits rises o s) (i j : ℕ) (p : WriterNotes T)
+      (g : ReaderNotes T) → get_elem? s.views i ≡ some (Writer p) → get_elem? s.views j ≡ some (Reader g) →
       p.stage ≡ writer.W5 → g.stage ≡ reader.R5 → IsDone o p g
   cell_done s r i j p g there here idle rest =
       let a = r.each_seat i (Writer p) there in
@@ -31,10 +31,13 @@ module _ {T : Type 0} (fits : T → Type 0) (rises : T → T → Type 0) (o : T)
       let get_is : g ≡ r.get = b.0 in
       let shown : ℕ = number_in r.put.slots (latest_slot r.core) in
       let pair : ℕ = number_in r.put.slots (named_slot r.core r.core.read.pair) in
-      let stage : r.core.writer ≡ writer.W5 = r.in_views.writer_at ∙ (ap (λ (z : WriterNotes T). z.stage) (sym put_is) ∙ idle) in
-      let read : r.core.reader ≡ reader.R5 = r.in_views.reader_at ∙ (ap (λ (z : ReaderNotes T). z.stage) (sym get_is) ∙ rest) in
+      let stage : r.core.writer ≡ writer.W5 =
+      r.in_views.writer_at ∙ (ap (λ (z : WriterNotes T). z.stage) (sym put_is) ∙ idle) in
+      let read : r.core.reader ≡ reader.R5 =
+      r.in_views.reader_at ∙ (ap (λ (z : ReaderNotes T). z.stage) (sym get_is) ∙ rest) in
       let timed : IsTimed o r.put r.get r.now writer.W5 reader.R5 shown pair =
-      subst (λ (z : Stage × ReaderStage). IsTimed o r.put r.get r.now z.0 z.1 shown pair) (λ k. (stage k, read k)) r.timed in
+      subst (λ (z : Stage × ReaderStage). IsTimed o r.put r.get r.now z.0 z.1 shown pair)
+      (λ k. (stage k, read k)) r.timed in
       subst (λ (z : WriterNotes T × ReaderNotes T). IsDone o z.0 z.1) (λ k. (sym put_is k, sym get_is k)) (record {
         atomic = timed_atomic o r.put r.get r.now shown pair writer.W5 timed;
         ended = timed.ended_writes ∙ sym timed.begun_writes;

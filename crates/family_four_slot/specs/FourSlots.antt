@@ -20,7 +20,8 @@ module _ {T : Type 0} where
   -- what a process knows of cell k at the start
   abbrev pub first_part : T → ℕ → ℕ → ℕ → FourSlotSight T
   first_part o n i k =
-      cond (nat_eq i (writer_of n k)) (Writer (first_writer o)) (cond (nat_eq i (reader_of n k)) (Reader (first_reader o)) Spent)
+      cond (nat_eq i (writer_of n k)) (Writer (first_writer o))
+      (cond (nat_eq i (reader_of n k)) (Reader (first_reader o)) Spent)
 
   abbrev pub first_process : T → ℕ → ℕ → Process (FourSlotSight T)
   first_process o n i = record { who = i; clock = 0; times = []; held = []; parts = upto (first_part o n i) 0 (n * n) }

@@ -1,5 +1,5 @@
--- Where the four-slot cells of a family lie (this project's own): the writer's words of a cell on a line of eight words, and the reader's
--- word on the next
+-- Where the four-slot cells of a family lie (this project's own): the writer's words of a cell on a line of eight
+-- words, and the reader's word on the next
 use Rattle.std.specs.Prelude.{ℕ, zero, suc, ◌+◌, ◌*◌}
 use Rattle.family_table.specs.Layouts.{Layout}
 

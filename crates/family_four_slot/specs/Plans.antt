@@ -1,4 +1,5 @@
--- What a process of a family of four-slot cells has done, and what each step of the mechanism owes of its plan (this project's own).
+-- What a process of a family of four-slot cells has done, and what each step of the mechanism owes of
+-- its plan (this project's own).
 use Rattle.std.proofs.Common.{◌≡◌, ℕ, nat_eq, cond, Bool, true, false, ◌<◌, List, refl, sym, ap, ◌∙◌, subst}
 use Rattle.cell_contract.specs.Plans.{Accesses, Doings, doings}
 use Rattle.cell_contract.specs.Sights.{writer_or, reader_or}
@@ -44,26 +45,32 @@ module _ {T : Type 0} where
   -- all processes as they are behind the last step of a call, which shows them with this seat
   abbrev pub ShowsAll : (T → ℕ → ℕ → ℕ → ℕ → Doings T → Type 0) → Opened T → Me T (View (FourSlotSight T)) → Type 0
   ShowsAll plan key me = (ps : List (Process (FourSlotSight T))) → me.0 ≡ Has ps →
-      AllSoFar Spent (four_slots key.processes) (Done key.first) (IsPlanned plan key.first key.limit key.processes) key.processes ps
+      AllSoFar Spent (four_slots key.processes) (Done key.first)
+      (IsPlanned plan key.first key.limit key.processes) key.processes ps
 
--- What a step on cell k owes: at each later time, and whatever it finds, the process is of its plan. The slots of its seat don't matter
+-- What a step on cell k owes: at each later time, and whatever it finds, the process is of its plan. The
+-- slots of its seat don't matter
 module _ {T : Type 0} (Plan : ℕ → Process (FourSlotSight T) → Type 0) (k : ℕ) (v : Process (FourSlotSight T)) where
   -- W1, W4, W5, and W4 with W5
   abbrev pub MayBegin : WriterNotes T → T → Type 0
-  MayBegin p x = (b : Bool) (t : ℕ) (held : List ℕ) → v.clock < t → Plan v.who (knows Spent v k (Writer (begun_with p b x t)) t held)
+  MayBegin p x = (b : Bool) (t : ℕ) (held : List ℕ) → v.clock < t →
+      Plan v.who (knows Spent v k (Writer (begun_with p b x t)) t held)
 
   abbrev pub MayStore : WriterNotes T → Type 0
   MayStore p = (t : ℕ) (held : List ℕ) → v.clock < t → Plan v.who (knows Spent v k (Writer (stored_by p t)) t held)
 
   abbrev pub MayFinish : WriterNotes T → Type 0
-  MayFinish p = (count t : ℕ) (held : List ℕ) → v.clock < t → Plan v.who (knows Spent v k (Writer (finished_with p count t)) t held)
+  MayFinish p = (count t : ℕ) (held : List ℕ) → v.clock < t →
+      Plan v.who (knows Spent v k (Writer (finished_with p count t)) t held)
 
   -- R1, R2, R3
   abbrev pub MayAsk : ReaderNotes T → Type 0
-  MayAsk g = (b : Bool) (t : ℕ) (held : List ℕ) → v.clock < t → Plan v.who (knows Spent v k (Reader (asked_by g b t)) t held)
+  MayAsk g = (b : Bool) (t : ℕ) (held : List ℕ) → v.clock < t →
+      Plan v.who (knows Spent v k (Reader (asked_by g b t)) t held)
 
   abbrev pub MaySay : ReaderNotes T → Type 0
-  MaySay g = (count t : ℕ) (held : List ℕ) → v.clock < t → Plan v.who (knows Spent v k (Reader (said_with g count t)) t held)
+  MaySay g = (count t : ℕ) (held : List ℕ) → v.clock < t →
+      Plan v.who (knows Spent v k (Reader (said_with g count t)) t held)
 
   abbrev pub MayTake : ReaderNotes T → Type 0
   MayTake g = (b : Bool) (x : T) (t number : ℕ) (writes : Known T) (held : List ℕ) → v.clock < t →
@@ -98,7 +105,8 @@ module _ {T : Type 0} where
   abbrev answered : ReaderNotes T → Accesses T
   answered g = record { items = g.answers; begins = g.times.begins; ends = g.times.ends }
 
-  reader_stays : (d : ReaderNotes T) (v w : FourSlotSight T) → answered (reader_or d (hears_of v w)) ≡ answered (reader_or d v)
+  reader_stays : (d : ReaderNotes T) (v w : FourSlotSight T) →
+      answered (reader_or d (hears_of v w)) ≡ answered (reader_or d v)
   reader_stays d Spent w = refl
   reader_stays d (Told x) w = refl
   reader_stays d (Writer p) w = refl
@@ -120,21 +128,27 @@ module _ {T : Type 0} where
     writes_stay j = by_case (nat_eq j v.who)
       where
         by_case : (b : Bool) →
-            written (writer_or (first_writer o) (cond {A = FourSlotSight T} b Spent (of_cell Spent (place n v.who j) u.parts)))
-            ≡ written (writer_or (first_writer o) (cond {A = FourSlotSight T} b Spent (of_cell Spent (place n v.who j) v.parts)))
+            written
+            (writer_or (first_writer o) (cond {A = FourSlotSight T} b Spent (of_cell Spent (place n v.who j) u.parts)))
+            ≡ written
+            (writer_or (first_writer o) (cond {A = FourSlotSight T} b Spent (of_cell Spent (place n v.who j) v.parts)))
         by_case true = refl
         by_case false = ap written (ap (writer_or (first_writer o)) (heard_at (place n v.who j))
-            ∙ writer_stays (first_writer o) (of_cell Spent (place n v.who j) v.parts) (of_cell Spent (place n v.who j) r.parts))
+            ∙ writer_stays (first_writer o) (of_cell Spent (place n v.who j) v.parts)
+            (of_cell Spent (place n v.who j) r.parts))
 
     reads_stay : (j : ℕ) → (done_by o n u).reads j ≡ (done_by o n v).reads j
     reads_stay j = by_case (nat_eq j v.who)
       where
         by_case : (b : Bool) →
-            answered (reader_or (first_reader o) (cond {A = FourSlotSight T} b Spent (of_cell Spent (place n j v.who) u.parts)))
-            ≡ answered (reader_or (first_reader o) (cond {A = FourSlotSight T} b Spent (of_cell Spent (place n j v.who) v.parts)))
+            answered
+            (reader_or (first_reader o) (cond {A = FourSlotSight T} b Spent (of_cell Spent (place n j v.who) u.parts)))
+            ≡ answered
+            (reader_or (first_reader o) (cond {A = FourSlotSight T} b Spent (of_cell Spent (place n j v.who) v.parts)))
         by_case true = refl
         by_case false = ap (λ z. answered (reader_or (first_reader o) z)) (heard_at (place n j v.who))
-            ∙ reader_stays (first_reader o) (of_cell Spent (place n j v.who) v.parts) (of_cell Spent (place n j v.who) r.parts)
+            ∙ reader_stays (first_reader o) (of_cell Spent (place n j v.who) v.parts)
+            (of_cell Spent (place n j v.who) r.parts)
 
     still_reader : (g : ReaderNotes T) (w : FourSlotSight T) → (h : ReaderNotes T) × (hears_of (Reader g) w ≡ Reader h)
     still_reader g Spent = (g, refl)
@@ -157,7 +171,8 @@ module _ {T : Type 0} where
     done_stays : done_by o n u ≡ done_by o n v
     done_stays = λ z. record { times = v.times; writes = λ j. writes_stay j z; reads = λ j. reads_stay j z }
 
-  pub receipts_keep_plans : (plan : T → ℕ → ℕ → ℕ → ℕ → Doings T → Type 0) (o : T) (limit n i : ℕ) (v : Process (FourSlotSight T))
-      (r : Receipt (FourSlotSight T)) → IsPlanned plan o limit n i v → IsPlanned plan o limit n i (heard_by hears_of v r)
+  pub receipts_keep_plans : (plan : T → ℕ → ℕ → ℕ → ℕ → Doings T → Type 0) (o : T) (limit n i : ℕ)
+      (v : Process (FourSlotSight T)) (r : Receipt (FourSlotSight T)) → IsPlanned plan o limit n i v →
+      IsPlanned plan o limit n i (heard_by hears_of v r)
   receipts_keep_plans plan o limit n i v r h =
       (shape_stays o n v r i h.0, subst (plan o 3 n limit i) (sym (done_stays o n v r)) h.1)

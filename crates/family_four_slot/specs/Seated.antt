@@ -62,8 +62,8 @@ module _ {T : Type 0} where
 
   -- what all processes have done so far, shown by a seat
   abbrev pub SeatShowsAll : (T → ℕ → ℕ → ℕ → ℕ → Doings T → Type 0) → FourSlotFamily T → FourSlotSeat T → Type 0
-  SeatShowsAll plan f s = AreSoFar (plan (opening_of f) 3 (processes_of f) (limit_of f)) (opening_of f) (processes_of f) s.who
-      (times_of s) (writes_of s) (reads_of s)
+  SeatShowsAll plan f s = AreSoFar (plan (opening_of f) 3 (processes_of f) (limit_of f)) (opening_of f)
+      (processes_of f) s.who (times_of s) (writes_of s) (reads_of s)
 
   -- the record that a receipt names to process j, and all that was written to that one up to then
   abbrev pub naming : FourSlotReceipt T → ℕ → Dated T

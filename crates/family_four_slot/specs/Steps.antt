@@ -1,6 +1,6 @@
--- What each step tells a process of a family of four-slot cells: what the step of one cell tells, and the one time of it. The cell is the
--- one whose word the step is on. A step here is one of the mechanism's: where an access makes two of them they have two times, as the
--- second one's store is left out and would come next (this project's own).
+-- What each step tells a process of a family of four-slot cells: what the step of one cell tells, and the one time of
+-- it. The cell is the one whose word the step is on. A step here is one of the mechanism's: where an access makes two
+-- of them they have two times, as the second one's store is left out and would come next (this project's own).
 use Rattle.std.specs.Prelude.{◌≡◌, ◌≢◌, ℕ, ◌<◌, Bool, List, [], ◌∷◌, ◌++◌}
 use Rattle.atomic_table.specs.Table.{Me, Step}
 use Rattle.four_slot_core.specs.Events.{slot_with, bit_number, slot_number}
@@ -10,7 +10,8 @@ use Rattle.cell_contract.specs.declared.times.Known.{Known}
 use Rattle.cell_four_slot.specs.declared.notes.WriterNotes.{WriterNotes}
 use Rattle.cell_four_slot.specs.declared.notes.ReaderNotes.{ReaderNotes}
 use Rattle.cell_contract.specs.declared.sight.Sight.TheVariants.{Spent, Writer, Reader}
-use Rattle.cell_four_slot.specs.Steps.{FourSlotSight, begun_with, stored_by, finished_with, asked_by, said_with, got_by, slot_of_choice}
+use Rattle.cell_four_slot.specs.Steps.{FourSlotSight, begun_with, stored_by, finished_with, asked_by}
+use Rattle.cell_four_slot.specs.Steps.{said_with, got_by, slot_of_choice}
 use Rattle.cell_four_slot.specs.Steps.{word_said, HasAnswered}
 use Rattle.family_table.specs.declared.notes.Process.{Process}
 use Rattle.family_table.specs.declared.notes.View.{View}
@@ -37,14 +38,15 @@ module _ {T : Type 0} where
 
   -- W4
   abbrev pub stores : Step T → Sat T → ℕ → Sat T → Type 0
-  stores st m n m' = (k i : ℕ) (v : Process (FourSlotSight T)) (p : WriterNotes T) (cs : List (ℕ × T)) → i < 4 → st.word ≡ word_at k i →
-      m.0 ≡ Has (v ∷ []) → of_cell Spent k v.parts ≡ Writer p → m.1 ≡ (slot_at k (slot_number p.slot), p.item.value) ∷ cs
-      → (t : ℕ) × (p.times.clock < t) × After v k (Writer (stored_by p t)) t cs m'
+  stores st m n m' = (k i : ℕ) (v : Process (FourSlotSight T)) (p : WriterNotes T) (cs : List (ℕ × T)) → i < 4 →
+      st.word ≡ word_at k i → m.0 ≡ Has (v ∷ []) → of_cell Spent k v.parts ≡ Writer p →
+      m.1 ≡ (slot_at k (slot_number p.slot), p.item.value) ∷ cs →
+      (t : ℕ) × (p.times.clock < t) × After v k (Writer (stored_by p t)) t cs m'
 
   -- W5, counted as so many accesses
   abbrev pub finishes_counting : ℕ → Step T → Sat T → ℕ → Sat T → Type 0
-  finishes_counting count st m n m' = (k : ℕ) (v : Process (FourSlotSight T)) (p : WriterNotes T) → st.word ≡ word_at k 0 →
-      m.0 ≡ Has (v ∷ []) → of_cell Spent k v.parts ≡ Writer p
+  finishes_counting count st m n m' = (k : ℕ) (v : Process (FourSlotSight T)) (p : WriterNotes T) →
+      st.word ≡ word_at k 0 → m.0 ≡ Has (v ∷ []) → of_cell Spent k v.parts ≡ Writer p
       → (t : ℕ) × (p.times.clock < t) × After v k (Writer (finished_with p count t)) t m.1 m'
 
   abbrev pub finishes : Step T → Sat T → ℕ → Sat T → Type 0
@@ -54,16 +56,18 @@ module _ {T : Type 0} where
   abbrev pub has_stored : Process (FourSlotSight T) → ℕ → WriterNotes T → ℕ → List (ℕ × T) → Process (FourSlotSight T)
   has_stored v k p t cs = knows Spent v k (Writer (stored_by p t)) t (held_slots cs)
 
-  -- W4; and W5 too, by no access and at the next time, where `latest` has the pair already: its store would change nothing
+  -- W4; and W5 too, by no access and at the next time, where `latest` has the pair already:
+  -- its store would change nothing
   abbrev pub stores_on : Step T → Sat T → ℕ → Sat T → Type 0
-  stores_on st m n m' = (k i : ℕ) (v : Process (FourSlotSight T)) (p : WriterNotes T) (cs : List (ℕ × T)) → i < 4 → st.word ≡ word_at k i →
-      m.0 ≡ Has (v ∷ []) → of_cell Spent k v.parts ≡ Writer p → m.1 ≡ (slot_at k (slot_number p.slot), p.item.value) ∷ cs
-      → (t : ℕ) × (v.clock < t)
+  stores_on st m n m' = (k i : ℕ) (v : Process (FourSlotSight T)) (p : WriterNotes T) (cs : List (ℕ × T)) → i < 4 →
+      st.word ≡ word_at k i → m.0 ≡ Has (v ∷ []) → of_cell Spent k v.parts ≡ Writer p →
+      m.1 ≡ (slot_at k (slot_number p.slot), p.item.value) ∷ cs → (t : ℕ) × (v.clock < t)
       × (bit_number p.slot.pair ≢ bit_number p.latest → After v k (Writer (stored_by p t)) t cs m')
       × (bit_number p.slot.pair ≡ bit_number p.latest →
       (u : ℕ) × After (has_stored v k p t cs) k (Writer (finished_with (stored_by p t) 0 u)) u cs m')
 
-  -- W4 and W5, which take two times; W5 by no access where `latest` has the pair already, and by one where it has the other
+  -- W4 and W5, which take two times; W5 by no access where `latest` has the pair already, and
+  -- by one where it has the other
   abbrev pub publishes : ℕ → Sat T → Sat T → Type 0
   publishes k m m' = (v : Process (FourSlotSight T)) (p : WriterNotes T) (cs : List (ℕ × T)) → m.0 ≡ Has (v ∷ []) →
       of_cell Spent k v.parts ≡ Writer p → m.1 ≡ (slot_at k (slot_number p.slot), p.item.value) ∷ cs
@@ -73,14 +77,15 @@ module _ {T : Type 0} where
 
   -- R1
   abbrev pub asks : Step T → Sat T → ℕ → Sat T → Type 0
-  asks st m n m' = (k : ℕ) (v : Process (FourSlotSight T)) (g : ReaderNotes T) → st.word ≡ word_at k 0 → m.0 ≡ Has (v ∷ []) →
-      of_cell Spent k v.parts ≡ Reader g
+  asks st m n m' = (k : ℕ) (v : Process (FourSlotSight T)) (g : ReaderNotes T) → st.word ≡ word_at k 0 →
+      m.0 ≡ Has (v ∷ []) → of_cell Spent k v.parts ≡ Reader g
       → (b : Bool) × (t : ℕ) × (n ≡ bit_number b) × (g.times.clock < t) × After v k (Reader (asked_by g b t)) t m.1 m'
 
-  -- R2, counted as so many accesses, with which the slot of the read before is given back, wherever it lies among the seat's
+  -- R2, counted as so many accesses, with which the slot of the read before is given back,
+  -- wherever it lies among the seat's
   abbrev pub says_counting : ℕ → Step T → Sat T → ℕ → Sat T → Type 0
-  says_counting count st m n m' = (k : ℕ) (v : Process (FourSlotSight T)) (g : ReaderNotes T) → st.word ≡ word_at k 1 → m.0 ≡ Has (v ∷ []) →
-      of_cell Spent k v.parts ≡ Reader g
+  says_counting count st m n m' = (k : ℕ) (v : Process (FourSlotSight T)) (g : ReaderNotes T) → st.word ≡ word_at k 1 →
+      m.0 ≡ Has (v ∷ []) → of_cell Spent k v.parts ≡ Reader g
       → (before : List (ℕ × T)) × (behind : List (ℕ × T)) × (t : ℕ)
       × (m.1 ≡ before ++ (shift (slot_at k) (slot_of_choice g.chosen g.at_hand.value) ++ behind)) × (g.times.clock < t)
       × After v k (Reader (said_with g count t)) t (before ++ behind) m'
@@ -89,32 +94,37 @@ module _ {T : Type 0} where
   says = says_counting 1
 
   -- what a process knows after R1 and before R2
-  abbrev pub has_asked : Process (FourSlotSight T) → ℕ → ReaderNotes T → Bool → ℕ → List (ℕ × T) → Process (FourSlotSight T)
+  abbrev pub has_asked : Process (FourSlotSight T) → ℕ → ReaderNotes T → Bool → ℕ → List (ℕ × T) →
+      Process (FourSlotSight T)
   has_asked v k g b t cs = knows Spent v k (Reader (asked_by g b t)) t (held_slots cs)
 
-  -- R1; and R2 too, by no access and at the next time, where `reading` has the pair already: its store would change nothing
+  -- R1; and R2 too, by no access and at the next time, where `reading` has the pair already:
+  -- its store would change nothing
   abbrev pub asks_on : Step T → Sat T → ℕ → Sat T → Type 0
-  asks_on st m n m' = (k : ℕ) (v : Process (FourSlotSight T)) (g : ReaderNotes T) → st.word ≡ word_at k 0 → m.0 ≡ Has (v ∷ []) →
-      of_cell Spent k v.parts ≡ Reader g
+  asks_on st m n m' = (k : ℕ) (v : Process (FourSlotSight T)) (g : ReaderNotes T) → st.word ≡ word_at k 0 →
+      m.0 ≡ Has (v ∷ []) → of_cell Spent k v.parts ≡ Reader g
       → (b : Bool) × (t : ℕ) × (n ≡ bit_number b) × (v.clock < t)
       × (n ≢ word_said g.chosen → After v k (Reader (asked_by g b t)) t m.1 m')
       × (n ≡ word_said g.chosen → (before : List (ℕ × T)) × (behind : List (ℕ × T)) × (u : ℕ)
       × (m.1 ≡ before ++ (shift (slot_at k) (slot_of_choice g.chosen g.at_hand.value) ++ behind))
       × After (has_asked v k g b t m.1) k (Reader (said_with (asked_by g b t) 0 u)) u (before ++ behind) m')
 
-  -- R1 and R2, which take two times; R2 by no access where `reading` has the pair already, and by one where it has another
+  -- R1 and R2, which take two times; R2 by no access where `reading` has the pair already,
+  -- and by one where it has another
   abbrev pub announces : ℕ → Sat T → ℕ → Sat T → Type 0
-  announces k m n m' = (v : Process (FourSlotSight T)) (g : ReaderNotes T) → m.0 ≡ Has (v ∷ []) → of_cell Spent k v.parts ≡ Reader g
-      → (b : Bool) × (t : ℕ) × (u : ℕ) × (i : ℕ) × (before : List (ℕ × T)) × (behind : List (ℕ × T)) × (n ≡ bit_number b)
+  announces k m n m' = (v : Process (FourSlotSight T)) (g : ReaderNotes T) → m.0 ≡ Has (v ∷ []) →
+      of_cell Spent k v.parts ≡ Reader g → (b : Bool) × (t : ℕ) × (u : ℕ) × (i : ℕ) × (before : List (ℕ × T))
+      × (behind : List (ℕ × T)) × (n ≡ bit_number b)
       × (n ≡ word_said g.chosen → i ≡ 0) × (n ≢ word_said g.chosen → i ≡ 1)
       × (m.1 ≡ before ++ (shift (slot_at k) (slot_of_choice g.chosen g.at_hand.value) ++ behind)) × (v.clock < t)
       × After (has_asked v k g b t m.1) k (Reader (said_with (asked_by g b t) i u)) u (before ++ behind) m'
 
   -- R3, with R4 and R5
   abbrev pub takes : (T → Type 0) → (T → T → Type 0) → Step T → Sat T → ℕ → Sat T → Type 0
-  takes fits rises st m n m' = (k i : ℕ) (v : Process (FourSlotSight T)) (g : ReaderNotes T) → i < 4 → st.word ≡ word_at k i →
-      m.0 ≡ Has (v ∷ []) → of_cell Spent k v.parts ≡ Reader g
+  takes fits rises st m n m' = (k i : ℕ) (v : Process (FourSlotSight T)) (g : ReaderNotes T) → i < 4 →
+      st.word ≡ word_at k i → m.0 ≡ Has (v ∷ []) → of_cell Spent k v.parts ≡ Reader g
       → (b : Bool) × (x : T) × (t : ℕ) × (number : ℕ) × (writes : Known T) × (n ≡ bit_number b) × (g.times.clock < t)
-      × After v k (Reader (got_by g b x t number writes)) t ((slot_at k (slot_number (slot_with g.slot.pair b)), x) ∷ m.1) m'
+      × After v k (Reader (got_by g b x t number writes)) t
+      ((slot_at k (slot_number (slot_with g.slot.pair b)), x) ∷ m.1) m'
       × IsAnswer fits rises g.opening.value g.answers g.told x × HasAnswered g (got_by g b x t number writes) x
       × AreHeeded g.heard writes number

@@ -25,11 +25,13 @@ module _ {T : Type 0} where
     pub held : v.held ≡ held_slots me.1
 
   -- it writes cell k with these notes, or reads it
-  pub record HasWriter (me : Me T (View (FourSlotSight T))) (k : ℕ) (v : Process (FourSlotSight T)) (p : WriterNotes T) : Type 0 where
+  pub record HasWriter (me : Me T (View (FourSlotSight T))) (k : ℕ) (v : Process (FourSlotSight T))
+      (p : WriterNotes T) : Type 0 where
     pub process : HasProcess me k v
     pub notes : of_cell Spent k v.parts ≡ Writer p
 
-  pub record HasReader (me : Me T (View (FourSlotSight T))) (k : ℕ) (v : Process (FourSlotSight T)) (g : ReaderNotes T) : Type 0 where
+  pub record HasReader (me : Me T (View (FourSlotSight T))) (k : ℕ) (v : Process (FourSlotSight T))
+      (g : ReaderNotes T) : Type 0 where
     pub process : HasProcess me k v
     pub notes : of_cell Spent k v.parts ≡ Reader g
 

@@ -1,5 +1,6 @@
 -- What contracts see of a family of four-slot cells (this project's own).
-use Rattle.std.specs.Prelude.{◌≡◌, ◌≢◌, ℕ, ◌*◌, ◌<◌, ◌≤◌, nat_eq, cond, List, [], ◌++◌, length, slice_index_or, slice_index}
+use Rattle.std.specs.Prelude.{◌≡◌, ◌≢◌, ℕ, ◌*◌, ◌<◌, ◌≤◌, nat_eq, cond, List, [], ◌++◌}
+use Rattle.std.specs.Prelude.{length, slice_index_or, slice_index}
 use Rattle.four_slot_core.specs.declared.state.Stage.TheVariants as writer
 use Rattle.four_slot_core.specs.declared.state.ReaderStage.TheVariants as reader
 use Rattle.four_slot_core.specs.Events.{bit_number}
@@ -8,7 +9,8 @@ use Rattle.cell_contract.specs.Sights.{writer_or, reader_or}
 use Rattle.cell_four_slot.specs.declared.notes.WriterNotes.{WriterNotes}
 use Rattle.cell_four_slot.specs.declared.notes.ReaderNotes.{ReaderNotes}
 use Rattle.cell_contract.specs.declared.sight.Sight.TheVariants.{Spent, Writer, Reader}
-use Rattle.cell_four_slot.specs.Steps.{FourSlotSight, first_writer, first_reader, bit_words, slot_of_choice, word_said, receipt_for}
+use Rattle.cell_four_slot.specs.Steps.{FourSlotSight, first_writer, first_reader, bit_words}
+use Rattle.cell_four_slot.specs.Steps.{slot_of_choice, word_said, receipt_for}
 use Rattle.cell_contract.specs.Accesses.{WriteAccesses, ReadAccesses}
 use Rattle.family_four_slot.specs.declared.family.Shown.{Shown}
 use Rattle.family_four_slot.specs.declared.family.Stored.{Stored}
@@ -32,7 +34,14 @@ module _ {T : Type 0} (o : T) (n : ℕ) where
 
   abbrev pub reads_from : Process (FourSlotSight T) → ℕ → ReadAccesses T
   reads_from v j = let g = reader_from v j in
-      record { answers = g.answers; numbers = g.numbers; known = g.known; told = g.told; heard = g.heard; times = g.times }
+      record {
+        answers = g.answers;
+        numbers = g.numbers;
+        known = g.known;
+        told = g.told;
+        heard = g.heard;
+        times = g.times;
+      }
 
 module _ {T : Type 0} where
   -- the seat has the slot of the last read of a cell, among others
@@ -48,7 +57,8 @@ abbrev pub shown_to : Stored → ℕ → Shown
 shown_to kept j = slice_index_or kept.shown j none_shown
 
 module _ {T : Type 0} (o : T) where
-  -- a cell that a process writes, between two calls: the pairs' bits and the pair in `latest` are those that the seat remembers
+  -- a cell that a process writes, between two calls: the pairs' bits and the pair in `latest` are
+  -- those that the seat remembers
   pub record IsRow (part : FourSlotSight T) (remembered : List ℕ) (latest : ℕ) : Type 0 where
     pub notes : WriterNotes T
     pub is : part ≡ Writer notes

@@ -14,7 +14,8 @@ ghost use Rattle.family_four_slot.specs.Seated.{IsFirst};
 ghost use Rattle.family_table.specs.declared.notes.Process.{Process};
 ghost use Rattle.cell_four_slot.specs.Steps.{FourSlotSight};
 ghost use Rattle.family_table.specs.Seated.{number_of, clock_of, times_of};
-ghost use Rattle.family_four_slot.specs.Seated.{opening_of, processes_of, limit_of, writes_of, reads_of, IsSeat, SeatShowsAll};
+ghost use Rattle.family_four_slot.specs.Seated.{opening_of, processes_of, limit_of, writes_of};
+ghost use Rattle.family_four_slot.specs.Seated.{reads_of, IsSeat, SeatShowsAll};
 ghost use Rattle.family_table.specs.Seated.{sender_of, time_of};
 ghost use Rattle.family_four_slot.specs.Seated.{named_by, carried_by, IsReceipt, three_are_few, three_steps};
 
@@ -28,30 +29,32 @@ use std::alloc::{AllocError, Global};
 use std::marker::Brand;
 use std::snapshot::Snapshot;
 
-/// Registers of four slots each, in one table. Each write and each read makes three steps of the mechanism, by three control accesses or
-/// by two, plain loads and stores: the store of a pair is left out where its word has that pair already.
+/// Registers of four slots each, in one table. Each write and each read makes three steps of the
+/// mechanism, by three control accesses or by two, plain loads and stores: the store of a pair is left out
+/// where its word has that pair already.
 #[derive(Drop)]
 pub struct FourSlotFamily<T: Planned> {
     table: FamilyTable<T>,
 }
 
-/// What a process stored last in the words of a register that it writes: the pairs' bits and the pair in `latest`. They lie side by side,
-/// so that a row has one running place for both.
+/// What a process stored last in the words of a register that it writes: the pairs' bits and the pair in `latest`. They
+/// lie side by side, so that a row has one running place for both.
 #[derive(Clone, Copy)]
 pub struct Shown {
     bits: [u64; 2],
     latest: u64,
 }
 
-/// What a process stored last in the words of its registers, by the other process: in those that it writes, and in those that it reads
-/// the pair in `reading`, 2 where it has stored none.
+/// What a process stored last in the words of its registers, by the other process: in those that it writes, and in
+/// those that it reads the pair in `reading`, 2 where it has stored none.
 #[derive(Clone, Copy)]
 pub struct Stored {
     shown: [Shown; 16],
     said: [u64; 16],
 }
 
-/// The right to write and to read as one of the processes. Of each register from which it has read it holds the slot of its last answer.
+/// The right to write and to read as one of the processes. Of each register from which it has read it holds
+/// the slot of its last answer.
 pub type FourSlotSeat<T> = ProcessSeat<T, FourSlotSight<T>, Stored>;
 
 /// A receipt of a process for all that it has written.
@@ -97,11 +100,13 @@ impl<T: Planned> FourSlotFamily<T> {
         requires own { IsSeat self.now seat.old }
         requires other { (to < processes_of self.now) × (to ≢ number_of seat.old) }
         requires at { cell ≡ place seat.old.processes seat.old.who to }
-        requires lawful { T.fits item.now × T.rises (last_or (opening_of self.now) (writes_of seat.old to).items) item.now }
+        requires lawful { T.fits item.now
+            × T.rises (last_or (opening_of self.now) (writes_of seat.old to).items) item.now }
         requires plan { MayWrite
-            (T.plan (opening_of self.now) 3 (processes_of self.now) (limit_of self.now) (number_of seat.old)) 3 item.now to
-            (doings (times_of seat.old) (writes_of seat.old) (reads_of seat.old)) }
-        ensures write { IsWriteTo (IsSeat self.now) number_of clock_of times_of writes_of reads_of 3 item.now to seat.old seat.new }
+            (T.plan (opening_of self.now) 3 (processes_of self.now) (limit_of self.now)
+            (number_of seat.old)) 3 item.now to (doings (times_of seat.old) (writes_of seat.old) (reads_of seat.old)) }
+        ensures write { IsWriteTo (IsSeat self.now)
+            number_of clock_of times_of writes_of reads_of 3 item.now to seat.old seat.new }
         ensures so_far { SeatShowsAll T.plan self.now seat.new }
     {
         let table = &self.table;
@@ -260,11 +265,13 @@ impl<T: Planned> Family<T> for FourSlotFamily<T> {
     }
 
     fn so_far(&self, seats: &mut Vec<FourSlotSeat<T>>)
-        requires { (vec_len seats.old ≡ processes_of self.now) × Each (λ i s. IsSeat self.now s × (number_of s ≡ i)) seats.old.items }
+        requires { (vec_len seats.old ≡ processes_of self.now)
+            × Each (λ i s. IsSeat self.now s × (number_of s ≡ i)) seats.old.items }
         ensures same { (seats.new.items ≡ seats.old.items) × (vec_capacity seats.new ≡ vec_capacity seats.old) }
         ensures scheduled { (steps : List ℕ) × IsSchedule (processes_of self.now) steps
             × Each (λ i s. times_of s ≡ positions 1 i steps) seats.old.items }
-        ensures atomic { EachTwo (λ i j s t. IsAtomicCell (opening_of self.now) (writes_of s j) (reads_of t i)) seats.old.items }
+        ensures atomic { EachTwo
+            (λ i j s t. IsAtomicCell (opening_of self.now) (writes_of s j) (reads_of t i)) seats.old.items }
     {
         show(&self.table.rows, seats);
     }
@@ -273,7 +280,8 @@ impl<T: Planned> Family<T> for FourSlotFamily<T> {
         requires { (vec_len seats ≡ processes_of self) × Each (λ i s. IsSeat self s × (number_of s ≡ i)) seats.items }
         ensures scheduled { (steps : List ℕ) × IsSchedule (processes_of self) steps
             × Each (λ i s. times_of s ≡ positions 1 i steps) seats.items }
-        ensures atomic { EachTwo (λ i j s t. IsAtomicCell (opening_of self) (writes_of s j) (reads_of t i)) seats.items }
+        ensures atomic { EachTwo
+            (λ i j s t. IsAtomicCell (opening_of self) (writes_of s j) (reads_of t i)) seats.items }
     {
         let FourSlotFamily { table } = self;
         let FamilyTable { rows } = table;

@@ -1,5 +1,5 @@
-//! The table of a family of four-slot cells and every step of the mechanism on it. No other module of this crate steps on the table but by
-//! what stands here, and by what is so of any family's table.
+//! The table of a family of four-slot cells and every step of the mechanism on it. No other module of this crate steps
+//! on the table but by what stands here, and by what is so of any family's table.
 ghost use Rattle.std.specs.Prelude.{◌≡◌, ◌≢◌, ℕ, ◌+◌, ◌*◌, ◌-◌, ◌<◌, ◌≤◌, List, [], ◌∷◌, ◌++◌, length, IfOk};
 ghost use mathlib.Core.Option.{none};
 ghost use Rattle.std.specs.declared.snapshot.Snapshot.{Snapshot};
@@ -17,7 +17,8 @@ ghost use Rattle.family_table.specs.declared.notes.Process.{Process};
 ghost use Rattle.family_table.specs.Layouts.{shift};
 ghost use Rattle.family_four_slot.specs.Places.{four_slots, slot_at};
 ghost use Rattle.family_four_slot.specs.FourSlots.{first_view, Idle};
-ghost use Rattle.family_four_slot.specs.Plans.{plan_of, MayAnnounce, MayBegin, MayFinish, MayPublish, MaySay, MayTake, ShowsAll};
+ghost use Rattle.family_four_slot.specs.Plans.{plan_of, MayAnnounce, MayBegin, MayFinish, MayPublish};
+ghost use Rattle.family_four_slot.specs.Plans.{MaySay, MayTake, ShowsAll};
 ghost use Rattle.family_four_slot.specs.Steps.{begins, stores_on, publishes, finishes, asks_on, announces, says, takes};
 ghost use Rattle.family_four_slot.specs.Tables.{HasWriter, HasReader, IsEnded};
 ghost use Rattle.family_table.specs.Family.{of_cell};
@@ -61,8 +62,8 @@ fn slot_place(cell: usize, slot: usize) -> usize
 }
 
 impl<T: Planned> FamilyTable<T> {
-    /// A table of the cells of so many processes, which all hold this record, and a seat that has all processes. The records'
-    /// plan alone speaks of the limit.
+    /// A table of the cells of so many processes, which all hold this record, and a seat that has all processes. The
+    /// records' plan alone speaks of the limit.
     pub fn new(
         alloc: Global,
         processes: usize,
@@ -93,7 +94,8 @@ impl<T: Planned> FamilyTable<T> {
         requires own { seat.old.inner.table_id ≡ self.now.rows.inner.shared.table_id }
         requires place { cell < (four_slots self.now.rows.inner.shared.key.processes).cells }
         requires item { K.item ≡ item.value ∷ [] }
-        requires idle { (v : Process (FourSlotSight T)) × (p : WriterNotes T) × HasWriter seat.old.inner.me cell v p × (p.stage ≡ W5)
+        requires idle { (v : Process (FourSlotSight T)) × (p : WriterNotes T)
+            × HasWriter seat.old.inner.me cell v p × (p.stage ≡ W5)
             × T.fits item.value
             × T.rises (last_or p.opening.value p.written) item.value
             × MayBegin (plan_of T.plan self.now.rows.inner.shared.key) cell v p item.value }
@@ -118,10 +120,12 @@ impl<T: Planned> FamilyTable<T> {
         shown: &mut u64,
     )
         requires opening { (K.first ≡ self.now.rows.inner.shared.key.first ∷ [])
-            × (K.processes ≡ self.now.rows.inner.shared.key.processes) × (K.limit ≡ self.now.rows.inner.shared.key.limit) }
+            × (K.processes ≡ self.now.rows.inner.shared.key.processes)
+            × (K.limit ≡ self.now.rows.inner.shared.key.limit) }
         requires own { seat.old.inner.table_id ≡ self.now.rows.inner.shared.table_id }
         requires place { cell < (four_slots self.now.rows.inner.shared.key.processes).cells }
-        requires filled { (v : Process (FourSlotSight T)) × (p : WriterNotes T) × (cs : List (ℕ × T)) × HasWriter seat.old.inner.me cell v p
+        requires filled { (v : Process (FourSlotSight T)) × (p : WriterNotes T) × (cs : List (ℕ × T))
+            × HasWriter seat.old.inner.me cell v p
             × (seat.old.inner.me.1 ≡ (slot_at cell (slot_number p.slot), p.item.value) ∷ cs) × (p.stage ≡ W3)
             × (pair ≡ bit_number p.slot.pair) × (index ≡ bit_number p.slot.index) × (shown.old ≡ bit_number p.latest)
             × MayPublish (plan_of T.plan self.now.rows.inner.shared.key) cell v p }
@@ -138,19 +142,23 @@ impl<T: Planned> FamilyTable<T> {
         self.finish::<K>(seat, cell, pair);
     }
 
-    /// W4: stores the index in the pair's word, and gives the slot back. This is W5 too where `latest` has the pair already.
+    /// W4: stores the index in the pair's word, and gives the slot back. This is W5 too where
+    /// `latest` has the pair already.
     #[inline]
     fn store<K: Opening<T>>(&self, seat: &mut FamilySeat<T>, cell: usize, pair: u64, index: u64)
         requires opening { (K.first ≡ self.now.rows.inner.shared.key.first ∷ [])
-            × (K.processes ≡ self.now.rows.inner.shared.key.processes) × (K.limit ≡ self.now.rows.inner.shared.key.limit) }
+            × (K.processes ≡ self.now.rows.inner.shared.key.processes)
+            × (K.limit ≡ self.now.rows.inner.shared.key.limit) }
         requires own { seat.old.inner.table_id ≡ self.now.rows.inner.shared.table_id }
         requires place { cell < (four_slots self.now.rows.inner.shared.key.processes).cells }
-        requires filled { (v : Process (FourSlotSight T)) × (p : WriterNotes T) × (cs : List (ℕ × T)) × HasWriter seat.old.inner.me cell v p
+        requires filled { (v : Process (FourSlotSight T)) × (p : WriterNotes T) × (cs : List (ℕ × T))
+            × HasWriter seat.old.inner.me cell v p
             × (seat.old.inner.me.1 ≡ (slot_at cell (slot_number p.slot), p.item.value) ∷ cs) × (p.stage ≡ W3)
             × (pair ≡ bit_number p.slot.pair) × (index ≡ bit_number p.slot.index)
             × MayPublish (plan_of T.plan self.now.rows.inner.shared.key) cell v p }
         ensures own { seat.new.inner.table_id ≡ seat.old.inner.table_id }
-        ensures stored { stores_on (step self.now.rows.inner.shared.table_id.slots (16 * cell + 8 + (2 + pair)) index 0 none)
+        ensures stored { stores_on
+            (step self.now.rows.inner.shared.table_id.slots (16 * cell + 8 + (2 + pair)) index 0 none)
             seat.old.inner.me index seat.new.inner.me }
         ensures shown { ShowsAll T.plan self.now.rows.inner.shared.key seat.new.inner.me }
     {
@@ -168,10 +176,12 @@ impl<T: Planned> FamilyTable<T> {
     #[inline]
     fn finish<K: Opening<T>>(&self, seat: &mut FamilySeat<T>, cell: usize, pair: u64)
         requires opening { (K.first ≡ self.now.rows.inner.shared.key.first ∷ [])
-            × (K.processes ≡ self.now.rows.inner.shared.key.processes) × (K.limit ≡ self.now.rows.inner.shared.key.limit) }
+            × (K.processes ≡ self.now.rows.inner.shared.key.processes)
+            × (K.limit ≡ self.now.rows.inner.shared.key.limit) }
         requires own { seat.old.inner.table_id ≡ self.now.rows.inner.shared.table_id }
         requires place { cell < (four_slots self.now.rows.inner.shared.key.processes).cells }
-        requires stored { (v : Process (FourSlotSight T)) × (p : WriterNotes T) × HasWriter seat.old.inner.me cell v p × (p.stage ≡ W4)
+        requires stored { (v : Process (FourSlotSight T)) × (p : WriterNotes T)
+            × HasWriter seat.old.inner.me cell v p × (p.stage ≡ W4)
             × (pair ≡ bit_number p.slot.pair) × MayFinish (plan_of T.plan self.now.rows.inner.shared.key) cell v p }
         ensures own { seat.new.inner.table_id ≡ seat.old.inner.table_id }
         ensures finished { finishes (step self.now.rows.inner.shared.table_id.slots (16 * cell + 8) pair 0 none)
@@ -189,9 +199,10 @@ impl<T: Planned> FamilyTable<T> {
     pub(super) fn announce(&self, seat: &mut FamilySeat<T>, cell: usize, said: &mut u64) -> u64
         requires own { seat.old.inner.table_id ≡ self.now.rows.inner.shared.table_id }
         requires place { cell < (four_slots self.now.rows.inner.shared.key.processes).cells }
-        requires idle { (v : Process (FourSlotSight T)) × (g : ReaderNotes T) × (before : List (ℕ × T)) × (behind : List (ℕ × T))
-            × HasReader seat.old.inner.me cell v g
-            × (seat.old.inner.me.1 ≡ before ++ (shift (slot_at cell) (slot_of_choice g.chosen g.at_hand.value) ++ behind)) × (g.stage ≡ R5)
+        requires idle { (v : Process (FourSlotSight T)) × (g : ReaderNotes T) × (before : List (ℕ × T))
+            × (behind : List (ℕ × T)) × HasReader seat.old.inner.me cell v g
+            × (seat.old.inner.me.1
+            ≡ before ++ (shift (slot_at cell) (slot_of_choice g.chosen g.at_hand.value) ++ behind)) × (g.stage ≡ R5)
             × (said.old ≡ word_said g.chosen)
             × MayAnnounce (plan_of T.plan self.now.rows.inner.shared.key) cell v g }
         ensures own { seat.new.inner.table_id ≡ seat.old.inner.table_id }
@@ -212,13 +223,14 @@ impl<T: Planned> FamilyTable<T> {
     fn ask(&self, seat: &mut FamilySeat<T>, cell: usize) -> u64
         requires own { seat.old.inner.table_id ≡ self.now.rows.inner.shared.table_id }
         requires place { cell < (four_slots self.now.rows.inner.shared.key.processes).cells }
-        requires idle { (v : Process (FourSlotSight T)) × (g : ReaderNotes T) × (before : List (ℕ × T)) × (behind : List (ℕ × T))
-            × HasReader seat.old.inner.me cell v g
-            × (seat.old.inner.me.1 ≡ before ++ (shift (slot_at cell) (slot_of_choice g.chosen g.at_hand.value) ++ behind))
+        requires idle { (v : Process (FourSlotSight T)) × (g : ReaderNotes T) × (before : List (ℕ × T))
+            × (behind : List (ℕ × T)) × HasReader seat.old.inner.me cell v g
+            × (seat.old.inner.me.1
+            ≡ before ++ (shift (slot_at cell) (slot_of_choice g.chosen g.at_hand.value) ++ behind))
             × (g.stage ≡ R5) × MayAnnounce (plan_of T.plan self.now.rows.inner.shared.key) cell v g }
         ensures own { seat.new.inner.table_id ≡ seat.old.inner.table_id }
-        ensures asked { asks_on (step self.now.rows.inner.shared.table_id.slots (16 * cell + 8) 0 0 none) seat.old.inner.me result
-            seat.new.inner.me }
+        ensures asked { asks_on (step self.now.rows.inner.shared.table_id.slots (16 * cell + 8) 0 0 none)
+            seat.old.inner.me result seat.new.inner.me }
     {
         self.rows
             .inner
@@ -231,9 +243,10 @@ impl<T: Planned> FamilyTable<T> {
     fn say(&self, seat: &mut FamilySeat<T>, cell: usize, pair: u64)
         requires own { seat.old.inner.table_id ≡ self.now.rows.inner.shared.table_id }
         requires place { cell < (four_slots self.now.rows.inner.shared.key.processes).cells }
-        requires asked { (v : Process (FourSlotSight T)) × (g : ReaderNotes T) × (before : List (ℕ × T)) × (behind : List (ℕ × T))
-            × HasReader seat.old.inner.me cell v g
-            × (seat.old.inner.me.1 ≡ before ++ (shift (slot_at cell) (slot_of_choice g.chosen g.at_hand.value) ++ behind)) × (g.stage ≡ R1)
+        requires asked { (v : Process (FourSlotSight T)) × (g : ReaderNotes T) × (before : List (ℕ × T))
+            × (behind : List (ℕ × T)) × HasReader seat.old.inner.me cell v g
+            × (seat.old.inner.me.1
+            ≡ before ++ (shift (slot_at cell) (slot_of_choice g.chosen g.at_hand.value) ++ behind)) × (g.stage ≡ R1)
             × (pair ≡ bit_number g.slot.pair) × MaySay (plan_of T.plan self.now.rows.inner.shared.key) cell v g }
         ensures own { seat.new.inner.table_id ≡ seat.old.inner.table_id }
         ensures said { says (step self.now.rows.inner.shared.table_id.slots (16 * cell + 8 + 8) pair 0 none)
@@ -254,14 +267,16 @@ impl<T: Planned> FamilyTable<T> {
         pair: u64,
     ) -> u64
         requires opening { (K.first ≡ self.now.rows.inner.shared.key.first ∷ [])
-            × (K.processes ≡ self.now.rows.inner.shared.key.processes) × (K.limit ≡ self.now.rows.inner.shared.key.limit) }
+            × (K.processes ≡ self.now.rows.inner.shared.key.processes)
+            × (K.limit ≡ self.now.rows.inner.shared.key.limit) }
         requires own { seat.old.inner.table_id ≡ self.now.rows.inner.shared.table_id }
         requires place { cell < (four_slots self.now.rows.inner.shared.key.processes).cells }
-        requires said { (v : Process (FourSlotSight T)) × (g : ReaderNotes T) × HasReader seat.old.inner.me cell v g × (g.stage ≡ R2)
+        requires said { (v : Process (FourSlotSight T)) × (g : ReaderNotes T)
+            × HasReader seat.old.inner.me cell v g × (g.stage ≡ R2)
             × (pair ≡ bit_number g.slot.pair) × MayTake (plan_of T.plan self.now.rows.inner.shared.key) cell v g }
         ensures own { seat.new.inner.table_id ≡ seat.old.inner.table_id }
-        ensures taken { takes T.fits T.rises (step self.now.rows.inner.shared.table_id.slots (16 * cell + 8 + (2 + pair)) 0 0 none)
-            seat.old.inner.me
+        ensures taken { takes T.fits T.rises
+            (step self.now.rows.inner.shared.table_id.slots (16 * cell + 8 + (2 + pair)) 0 0 none) seat.old.inner.me
             result seat.new.inner.me }
         ensures shown { ShowsAll T.plan self.now.rows.inner.shared.key seat.new.inner.me }
     {

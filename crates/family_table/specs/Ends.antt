@@ -1,5 +1,5 @@
--- What a seat knows of the processes that it has: one schedule, and the calls of each register whose two processes it has. And
--- what it is shown of all processes (this project's own).
+-- What a seat knows of the processes that it has: one schedule, and the calls of each register whose two processes it
+-- has. And what it is shown of all processes (this project's own).
 use Rattle.std.specs.Prelude.{◌≡◌, ℕ, ◌<◌, List, [], ◌∷◌, length, slice_get, Some}
 use mathlib.Core.Option.{some}
 use lib.ListN.{get_elem?}
@@ -12,15 +12,16 @@ use Rattle.family_table.specs.Layouts.{Layout}
 use Rattle.family_table.specs.Family.{of_cell}
 
 -- `done` is what is so of a register's calls, by what its writer knows of it and what its reader does
-pub record AllDone {V : Type 0} (blank : V) (l : Layout) (done : V → V → Type 0) (n : ℕ) (ps : List (Process V)) : Type 0 where
+pub record AllDone {V : Type 0} (blank : V) (l : Layout) (done : V → V → Type 0) (n : ℕ)
+    (ps : List (Process V)) : Type 0 where
   pub steps : List ℕ
   pub within : (x who : ℕ) → slice_get steps x ≡ Some who → who < n
   pub made : (a : ℕ) (p : Process V) → get_elem? ps a ≡ some p → p.times ≡ positions 1 p.who steps
   pub cells : (a b : ℕ) (p q : Process V) → get_elem? ps a ≡ some p → get_elem? ps b ≡ some q → (k : ℕ) → k < l.cells →
       done (of_cell blank k p.parts) (of_cell blank k q.parts)
 
--- *All processes* of a family at one moment, whoever has their seats: their steps are one schedule, each is of its plan, and
--- each register's calls are so far what `done` says. Among them are those that the seat has
+-- *All processes* of a family at one moment, whoever has their seats: their steps are one schedule, each is of its
+-- plan, and each register's calls are so far what `done` says. Among them are those that the seat has
 pub record AllSoFar {V : Type 0} (blank : V) (l : Layout) (done : V → V → Type 0) (Plan : ℕ → Process V → Type 0)
     (n : ℕ) (ps : List (Process V)) : Type 0 where
   pub steps : List ℕ
@@ -41,7 +42,8 @@ shows_all blank layout done plan firsts n limit st m found m' = (m' ≡ m)
     × ((o : _) (ps : List (Process _)) → firsts ≡ o ∷ [] → m.0 ≡ Has ps →
     AllSoFar blank (layout n) (done o) (plan o limit n) n ps)
 
--- a step that changes nothing shows the calls of the processes that the seat has, in a family of so many that opened with this record
+-- a step that changes nothing shows the calls of the processes that the seat has, in a family of so many
+-- that opened with this record
 abbrev pub shows : {T V : Type 0} → V → (ℕ → Layout) → (T → V → V → Type 0) → List T → ℕ → Step T → Me T (View V) → ℕ →
     Me T (View V) → Type 0
 shows blank layout done firsts n st m found m' = (m' ≡ m)
@@ -52,14 +54,15 @@ abbrev pub CellEnds : {T V : Type 0} → (ℕ → State T V → Type 0) → (V �
 CellEnds {T} {V} Rule done = (now : ℕ) (s : State T V) (i j : ℕ) (v w : V) → Rule now s → get_elem? s.views i ≡ some v →
     get_elem? s.views j ≡ some w → done v w
 
--- all processes as they are behind a step, in a family of so many that opened with this record, by this limit; and what the step tells,
--- and these
-abbrev pub shows_behind : {T V : Type 0} → V → (ℕ → Layout) → (T → V → V → Type 0) → (T → ℕ → ℕ → ℕ → Process V → Type 0) →
-    List T → ℕ → ℕ → Me T (View V) → Type 0
-shows_behind blank layout done plan firsts n limit m' = (o : _) (ps : List (Process _)) → firsts ≡ o ∷ [] → m'.0 ≡ Has ps →
-    AllSoFar blank (layout n) (done o) (plan o limit n) n ps
+-- all processes as they are behind a step, in a family of so many that opened with this record, by this limit; and
+-- what the step tells, and these
+abbrev pub shows_behind : {T V : Type 0} → V → (ℕ → Layout) → (T → V → V → Type 0) →
+    (T → ℕ → ℕ → ℕ → Process V → Type 0) → List T → ℕ → ℕ → Me T (View V) → Type 0
+shows_behind blank layout done plan firsts n limit m' = (o : _) (ps : List (Process _)) →
+    firsts ≡ o ∷ [] → m'.0 ≡ Has ps → AllSoFar blank (layout n) (done o) (plan o limit n) n ps
 
-abbrev pub tells_and_shows : {T V : Type 0} → V → (ℕ → Layout) → (T → V → V → Type 0) → (T → ℕ → ℕ → ℕ → Process V → Type 0) →
-    List T → ℕ → ℕ → (Step T → Me T (View V) → ℕ → Me T (View V) → Type 0) → Step T → Me T (View V) → ℕ → Me T (View V) → Type 0
+abbrev pub tells_and_shows : {T V : Type 0} → V → (ℕ → Layout) → (T → V → V → Type 0) →
+    (T → ℕ → ℕ → ℕ → Process V → Type 0) → List T → ℕ → ℕ → (Step T → Me T (View V) → ℕ → Me T (View V) → Type 0) →
+    Step T → Me T (View V) → ℕ → Me T (View V) → Type 0
 tells_and_shows blank layout done plan firsts n limit then st m found m' =
     then st m found m' × shows_behind blank layout done plan firsts n limit m'

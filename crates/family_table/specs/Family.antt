@@ -1,6 +1,7 @@
--- A family of cells in one table, so that all of them have one time. One seat is that of a process: its view has a clock and, for each
--- cell, what the process knows of it (this project's own).
-use Rattle.std.specs.Prelude.{◌≡◌, ◌≢◌, ℕ, ◌+◌, ◌<◌, ◌≤◌, max, nat_eq, cond, List, [], ◌∷◌, ◌++◌, map, length, slice_get, Some, slice_index}
+-- A family of cells in one table, so that all of them have one time. One seat is that of a process: its view has a
+-- clock and, for each cell, what the process knows of it (this project's own).
+use Rattle.std.specs.Prelude.{◌≡◌, ◌≢◌, ℕ, ◌+◌, ◌<◌, ◌≤◌, max, nat_eq, cond, List, [], ◌∷◌, ◌++◌, map}
+use Rattle.std.specs.Prelude.{length, slice_get, Some, slice_index}
 use Rattle.std.specs.Prelude.{slice_index_or, slice_set}
 use mathlib.Core.Option.{Option, some, none}
 use lib.ListN.{get_elem?}
@@ -26,7 +27,8 @@ module _ {V : Type 0} (blank : V) where
 
   -- what a process knows after a step on cell k at a time, with which its seat has these slots
   abbrev pub knows : Process V → ℕ → V → ℕ → List ℕ → Process V
-  knows v k w t held = record { who = v.who; clock = t; times = v.times ++ t ∷ []; held = held; parts = slice_set v.parts k w }
+  knows v k w t held =
+      record { who = v.who; clock = t; times = v.times ++ t ∷ []; held = held; parts = slice_set v.parts k w }
 
   module _ {S : Type 0} (l : Layout) where
     -- cell k as a table of its own: its views are those of the processes by their numbers, and then the receipts
@@ -34,7 +36,8 @@ module _ {V : Type 0} (blank : V) where
     cell k words homes processes receipts = record {
       words = gather (l.word k) l.cell_words 0 words;
       homes = gather (l.slot k) l.cell_slots none homes;
-      views = map (λ (p : Process V). of_cell k p.parts) processes ++ map (λ (r : Receipt V). of_cell k r.parts) receipts;
+      views = map (λ (p : Process V). of_cell k p.parts) processes
+          ++ map (λ (r : Receipt V). of_cell k r.parts) receipts;
     }
 
 module _ {V : Type 0} where
@@ -48,9 +51,9 @@ module _ {V : Type 0} where
   Shows processes receipts (Told r) = IsInCell r receipts
   Shows processes receipts (Has ps) = EachOf (λ (p : Process V). get_elem? processes p.who ≡ some p) ps
 
--- The rule of a family, of a cell's own rule at a time: of each cell it holds up to the one time, and no process knows of a later one.
--- The steps made are a schedule, which names the process of each: a process's times are the positions of its steps there,
--- from 1 on. Each process keeps to its plan, whoever has its seat
+-- The rule of a family, of a cell's own rule at a time: of each cell it holds up to the one time, and no process knows
+-- of a later one. The steps made are a schedule, which names the process of each: a process's times are the positions
+-- of its steps there, from 1 on. Each process keeps to its plan, whoever has its seat
 module _ {S V : Type 0} (blank : V) (l : Layout) (Rule : ℕ → State S V → Type 0) (Plan : ℕ → Process V → Type 0) where
   pub record FamilyRule (n : ℕ) (s : State S (View V)) : Type 0 where
     pub now : ℕ
@@ -82,18 +85,21 @@ module _ {S V : Type 0} (Rule : ℕ → State S V → Type 0) where
   abbrev pub CellAllows : ℕ → Me S V → ℕ → (ℕ → ℕ) → (ℕ → ℕ → Me S V → Type 0) → Type 0
   CellAllows id me i f then =
       (now t : ℕ) → now < t → (s : State S V) → Rule now s → get_elem? s.views id ≡ some me.0
-      → (w : V) × (a : Act S) × Proper me.1 a × Valid s.homes me.1 a × Rule t (stepped s i (f (slice_index s.words i)) id me.1 w a)
+      → (w : V) × (a : Act S) × Proper me.1 a × Valid s.homes me.1 a
+      × Rule t (stepped s i (f (slice_index s.words i)) id me.1 w a)
       × then t (slice_index s.words i) (w, carried_after me.1 a)
 
 module _ {S V : Type 0} (blank : V) (slot : ℕ → ℕ → ℕ) where
-  -- what a step on cell k tells the process: its time, which is later than all that the process knew of, and what the cell's step tells.
-  -- The seat had the slots `cs` of the cell between `before` and `behind`
-  abbrev pub StepTells : ℕ → Process V → List (ℕ × S) → List (ℕ × S) → (ℕ → ℕ → Me S V → Type 0) → ℕ → Me S (View V) → Type 0
+  -- what a step on cell k tells the process: its time, which is later than all that the process knew of, and what the
+  -- cell's step tells. The seat had the slots `cs` of the cell between `before` and `behind`
+  abbrev pub StepTells : ℕ → Process V → List (ℕ × S) → List (ℕ × S) → (ℕ → ℕ → Me S V → Type 0) → ℕ →
+      Me S (View V) → Type 0
   StepTells k v before behind then n m =
       (t : ℕ) × (w : V) × (c : List (ℕ × S)) × (v.clock < t) × then t n (w, c)
       × (m.0 ≡ Has (knows blank v k w t (held_slots m.1) ∷ [])) × (m.1 ≡ before ++ (shift (slot k) c ++ behind))
 
--- What a receipt tells, and what a process knows once it has learnt it. `receipt_for` and `hears_of` are those of one cell
+-- What a receipt tells, and what a process knows once it has learnt it. `receipt_for` and
+-- `hears_of` are those of one cell
 module _ {V : Type 0} where
   abbrev pub heard_parts : (V → V → V) → List V → List V → List V
   heard_parts hears [] ws = []

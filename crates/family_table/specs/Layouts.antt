@@ -1,4 +1,5 @@
--- Cells in one table: where the words and slots of each lie, and what an act on a cell's slots is in the table (this project's own).
+-- Cells in one table: where the words and slots of each lie, and what an act on a cell's slots is in
+-- the table (this project's own).
 use Rattle.std.specs.Prelude.{◌≡◌, ◌⊎◌, ℕ, zero, suc, ◌<◌, List, [], ◌∷◌, map, slice_index_or}
 use mathlib.Core.Option.{Option, some, none}
 use lib.ListN.{get_elem?}

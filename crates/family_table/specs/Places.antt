@@ -1,5 +1,5 @@
--- The cells of a family of processes: process i has a row of cells, one for each process, and process j reads the cells of its column
--- (this project's own).
+-- The cells of a family of processes: process i has a row of cells, one for each process, and process j reads the cells
+-- of its column (this project's own).
 use Rattle.std.specs.Prelude.{ℕ, zero, suc, ◌+◌, ◌*◌, ◌/◌, ◌%◌, List, [], ◌∷◌}
 
 -- the cell that process i writes and process j reads. A process has a cell that would be its own, and that nobody uses

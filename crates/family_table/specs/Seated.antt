@@ -26,7 +26,8 @@ module _ {T V X : Type 0} where
 
   -- among these processes are those of all of these seats
   abbrev pub AreAmong : List (Process V) → List (ProcessSeat T V X) → Type 0
-  AreAmong ps seats = (i : ℕ) (s : ProcessSeat T V X) → slice_get seats i ≡ Some s → (a : ℕ) × (get_elem? ps a ≡ some (known_by s))
+  AreAmong ps seats = (i : ℕ) (s : ProcessSeat T V X) → slice_get seats i ≡ Some s →
+      (a : ℕ) × (get_elem? ps a ≡ some (known_by s))
 
   -- the seat has the processes of all of these
   abbrev pub HasAll : FamilySeat T V → List (ProcessSeat T V X) → Type 0

@@ -26,8 +26,8 @@ pub trait Mechanism<T, V> {
     // What the first seat knows of a family of so many processes.
     ghost first: { T → ℕ → View V };
 
-    // What a process may know at any moment: by what the registers opened with, the limit, how many processes there are, and its
-    // number.
+    // What a process may know at any moment: by what the registers opened with, the limit, how many
+    // processes there are, and its number.
     ghost plan: { T → ℕ → ℕ → ℕ → Process V → Type 0 };
 
     // No call of the register is under way.

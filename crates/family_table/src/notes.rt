@@ -4,8 +4,8 @@ ghost use Rattle.std.specs.Prelude.{ℕ, List, []};
 use std::collections::LinkedList;
 use std::marker::Brand;
 
-/// What a process knows: its number, the last time of which it knows, the times of its steps, the slots that its seat has, and what
-/// it knows of each cell.
+/// What a process knows: its number, the last time of which it knows, the times of its steps, the slots that its seat
+/// has, and what it knows of each cell.
 pub struct Process<V> {
     pub who: u64,
     pub clock: u64,

@@ -1,6 +1,7 @@
 //! What a step tells that changes nothing, and what goes from seat to seat.
 ghost use Rattle.family_table.specs.Ends.{shows, shows_all, tells_and_shows};
-ghost use Rattle.family_table.specs.Seats.{all_but_first, first_of, no_process, all_of, told_by, learnt_by, joined, no_one};
+ghost use Rattle.family_table.specs.Seats.{all_but_first, first_of, no_process, all_of, told_by};
+ghost use Rattle.family_table.specs.Seats.{learnt_by, joined, no_one};
 
 use crate::mechanism::Mechanism;
 use crate::notes::{Opening, View};

@@ -82,8 +82,8 @@ fn show_all<T: Copy, V, M: Mechanism<T, V>, X: Copy>(
     ensures same { (seats.new.items ≡ seats.old.items) × (vec_capacity seats.new ≡ vec_capacity seats.old) }
     ensures all { (result.inner.table_id ≡ all.inner.table_id) × (result.inner.me ≡ all.inner.me) }
     ensures shown { (ps : List (Process V)) → all.inner.me ≡ (Has ps, []) →
-        HaveShown (AllDone M.blank (M.layout rows.now.inner.shared.key.processes) (M.done rows.now.inner.shared.key.first)
-        rows.now.inner.shared.key.processes) ps seats.old.items }
+        HaveShown (AllDone M.blank (M.layout rows.now.inner.shared.key.processes)
+        (M.done rows.now.inner.shared.key.first) rows.now.inner.shared.key.processes) ps seats.old.items }
 {
     let mut all = all;
     let Some(mut last) = seats.pop() else {
@@ -108,8 +108,9 @@ pub fn show<T: Copy, V, M: Mechanism<T, V>, X: Copy>(
     requires own { Each (λ i s. s.seat.inner.table_id ≡ rows.now.inner.shared.table_id) seats.old.items }
     requires one { Each (λ i s. s.seat.inner.me.0 ≡ Has (known_by s ∷ [])) seats.old.items }
     ensures same { (seats.new.items ≡ seats.old.items) × (vec_capacity seats.new ≡ vec_capacity seats.old) }
-    ensures shown { AllShown (AllDone M.blank (M.layout rows.now.inner.shared.key.processes) (M.done rows.now.inner.shared.key.first)
-        rows.now.inner.shared.key.processes) seats.old.items }
+    ensures shown { AllShown
+        (AllDone M.blank (M.layout rows.now.inner.shared.key.processes)
+        (M.done rows.now.inner.shared.key.first) rows.now.inner.shared.key.processes) seats.old.items }
 {
     let Some(mut last) = seats.pop() else {
         unreachable!();

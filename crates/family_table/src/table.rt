@@ -1,4 +1,5 @@
-//! The table of a family, what goes from seat to seat, and what a seat does with its slots. The steps of a mechanism stand with it.
+//! The table of a family, what goes from seat to seat, and what a seat does with its slots. The steps
+//! of a mechanism stand with it.
 ghost use Rattle.std.specs.Prelude.{◌≡◌, ℕ, ◌+◌, ◌*◌, ◌<◌, ◌≤◌, List, [], ◌∷◌, replicate, IfOk};
 ghost use Rattle.atomic_table.specs.Table.{opening};
 ghost use Rattle.family_table.specs.declared.notes.Process.{Process};
@@ -31,8 +32,8 @@ pub struct FamilySeat<T: Copy, V> {
 }
 
 impl<T: Copy, V, M: Mechanism<T, V>> Rows<T, V, M> {
-    /// A table of the registers of so many processes, which all hold this record, and a seat that has all processes. A register takes
-    /// `stride` words, which hold `word` at first. The processes' plans alone speak of the limit.
+    /// A table of the registers of so many processes, which all hold this record, and a seat that has all processes. A
+    /// register takes `stride` words, which hold `word` at first. The processes' plans alone speak of the limit.
     pub fn new(
         alloc: Global,
         processes: usize,
@@ -46,8 +47,8 @@ impl<T: Copy, V, M: Mechanism<T, V>> Rows<T, V, M> {
         requires small { (stride ≤ 16) × (slots ≤ 4) }
         requires starts { FamilyRule M.blank (M.layout processes) (M.keeps first)
             (M.plan first limit processes) processes
-            (opening (replicate (stride * (processes * processes) + 8) word) (replicate (slots * (processes * processes)) first)
-            (M.first first processes)) }
+            (opening (replicate (stride * (processes * processes) + 8) word)
+            (replicate (slots * (processes * processes)) first) (M.first first processes)) }
         ensures key { IfOk result (λ r.
             r.0.inner.shared.key ≡ record { first = first; processes = processes; limit = limit }) }
         ensures sized { IfOk result (λ r. r.0.inner.shared.table_id.words ≡ stride * (processes * processes) + 8) }
@@ -81,7 +82,8 @@ impl<T: Copy, V, M: Mechanism<T, V>> Rows<T, V, M> {
     pub fn part(&self, seat: &mut FamilySeat<T, V>) -> FamilySeat<T, V>
         requires own { seat.old.inner.table_id ≡ self.now.inner.shared.table_id }
         requires some { (p : Process V) × (ps : List (Process V)) × (seat.old.inner.me.0 ≡ Has (p ∷ ps)) }
-        ensures own { (seat.new.inner.table_id ≡ seat.old.inner.table_id) × (result.inner.table_id ≡ seat.old.inner.table_id) }
+        ensures own { (seat.new.inner.table_id ≡ seat.old.inner.table_id)
+            × (result.inner.table_id ≡ seat.old.inner.table_id) }
         ensures parted { (seat.new.inner.me ≡ (all_but_first seat.old.inner.me.0, seat.old.inner.me.1))
             × (result.inner.me ≡ (first_of seat.old.inner.me.0, [])) }
     {
@@ -92,9 +94,12 @@ impl<T: Copy, V, M: Mechanism<T, V>> Rows<T, V, M> {
     /// Parts a receipt of a process off.
     pub fn tell(&self, seat: &mut FamilySeat<T, V>) -> FamilySeat<T, V>
         requires own { seat.old.inner.table_id ≡ self.now.inner.shared.table_id }
-        requires idle { (v : Process V) × (seat.old.inner.me.0 ≡ Has (v ∷ [])) × ((k : ℕ) → M.idle (of_cell M.blank k v.parts)) }
-        ensures own { (seat.new.inner.table_id ≡ seat.old.inner.table_id) × (result.inner.table_id ≡ seat.old.inner.table_id) }
-        ensures parted { (seat.new.inner.me ≡ seat.old.inner.me) × (result.inner.me ≡ (told_by M.receipt seat.old.inner.me.0, [])) }
+        requires idle { (v : Process V) × (seat.old.inner.me.0 ≡ Has (v ∷ []))
+            × ((k : ℕ) → M.idle (of_cell M.blank k v.parts)) }
+        ensures own { (seat.new.inner.table_id ≡ seat.old.inner.table_id)
+            × (result.inner.table_id ≡ seat.old.inner.table_id) }
+        ensures parted { (seat.new.inner.me ≡ seat.old.inner.me)
+            × (result.inner.me ≡ (told_by M.receipt seat.old.inner.me.0, [])) }
     {
         let parted = self.inner.shared.split_seat::<Tells<T, M>>(&mut seat.inner);
         FamilySeat { inner: parted }
@@ -104,7 +109,8 @@ impl<T: Copy, V, M: Mechanism<T, V>> Rows<T, V, M> {
     pub fn duplicate(&self, receipt: &mut FamilySeat<T, V>) -> FamilySeat<T, V>
         requires own { receipt.old.inner.table_id ≡ self.now.inner.shared.table_id }
         requires receipt { (r : Receipt V) × (receipt.old.inner.me ≡ (Told r, [])) }
-        ensures own { (receipt.new.inner.table_id ≡ receipt.old.inner.table_id) × (receipt.new.inner.id ≡ receipt.old.inner.id)
+        ensures own { (receipt.new.inner.table_id ≡ receipt.old.inner.table_id)
+            × (receipt.new.inner.id ≡ receipt.old.inner.id)
             × (result.inner.table_id ≡ receipt.old.inner.table_id) }
         ensures same { (receipt.new.inner.me ≡ receipt.old.inner.me) × (result.inner.me ≡ receipt.old.inner.me) }
     {
@@ -116,10 +122,12 @@ impl<T: Copy, V, M: Mechanism<T, V>> Rows<T, V, M> {
     pub fn hear(&self, seat: &mut FamilySeat<T, V>, receipt: FamilySeat<T, V>)
         requires own { (seat.old.inner.table_id ≡ self.now.inner.shared.table_id)
             × (receipt.inner.table_id ≡ self.now.inner.shared.table_id) }
-        requires idle { (v : Process V) × (seat.old.inner.me.0 ≡ Has (v ∷ [])) × ((k : ℕ) → M.idle (of_cell M.blank k v.parts)) }
+        requires idle { (v : Process V) × (seat.old.inner.me.0 ≡ Has (v ∷ []))
+            × ((k : ℕ) → M.idle (of_cell M.blank k v.parts)) }
         requires receipt { (r : Receipt V) × (receipt.inner.me ≡ (Told r, [])) }
         ensures own { seat.new.inner.table_id ≡ seat.old.inner.table_id }
-        ensures joined { seat.new.inner.me ≡ (learnt_by M.hears seat.old.inner.me.0 receipt.inner.me.0, seat.old.inner.me.1) }
+        ensures joined { seat.new.inner.me
+            ≡ (learnt_by M.hears seat.old.inner.me.0 receipt.inner.me.0, seat.old.inner.me.1) }
     {
         let FamilySeat { inner: receipt } = receipt;
         self.inner
@@ -172,7 +180,8 @@ impl<T: Copy, V, M: Mechanism<T, V>> Rows<T, V, M> {
     /// A load that tells what the processes of a seat have done so far. Nothing changes.
     fn load_calls<K: Opening<T>>(&self, seat: &mut FamilySeat<T, V>)
         requires own { seat.old.inner.table_id ≡ self.now.inner.shared.table_id }
-        requires opening { (K.first ≡ self.now.inner.shared.key.first ∷ []) × (K.processes ≡ self.now.inner.shared.key.processes) }
+        requires opening { (K.first ≡ self.now.inner.shared.key.first ∷ [])
+            × (K.processes ≡ self.now.inner.shared.key.processes) }
         ensures own { (seat.new.inner.table_id ≡ seat.old.inner.table_id) × (seat.new.inner.id ≡ seat.old.inner.id) }
         ensures same { seat.new.inner.me ≡ seat.old.inner.me }
         ensures shown { (ps : List (Process V)) → seat.old.inner.me.0 ≡ Has ps →
@@ -253,7 +262,8 @@ impl<T: Copy, V, M: Mechanism<T, V>> Rows<T, V, M> {
         requires held { (x : T) × (cs : List (ℕ × T)) × (seat.old.inner.me.1 ≡ (slot, x) ∷ cs) }
         ensures own { seat.new.inner.table_id ≡ seat.old.inner.table_id }
         ensures same { seat.new.inner.me ≡ seat.old.inner.me }
-        ensures shown { (item : T) (cs : List (ℕ × T)) → seat.old.inner.me.1 ≡ (slot, item) ∷ cs → L.sees seen.old item seen.new }
+        ensures shown { (item : T) (cs : List (ℕ × T)) → seat.old.inner.me.1 ≡ (slot, item) ∷ cs →
+            L.sees seen.old item seen.new }
     {
         seen.see(&*seat.inner.slot_mut(&self.inner.shared, slot));
     }

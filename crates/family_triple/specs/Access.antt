@@ -16,8 +16,8 @@ use Rattle.family_triple.specs.Places.{slot_at}
 use Rattle.family_triple.specs.Words.{IsAtRest, writes_to, reads_from}
 
 module _ {T : Type 0} where
-  -- After a load, and a swap where that found the mark: the read is decided. The seat's first slot, of this number, has the answer; `notes`
-  -- are those with which the deciding step went on
+  -- After a load, and a swap where that found the mark: the read is decided. The seat's first slot, of this number, has
+  -- the answer; `notes` are those with which the deciding step went on
   pub record HasLooked (fits : T → Type 0) (rises : T → T → Type 0) (k : ℕ) (v : Process (TripleSight T))
       (g : ReaderNotes T) (cs : List (ℕ × T))
       (me : Me T (View (TripleSight T))) (slot : ℕ) : Type 0 where
@@ -38,7 +38,8 @@ module _ {T : Type 0} where
     pub heard : notes.heard ≡ g.heard
     pub heeds : AreHeeded g.heard writes number
 
-  -- Before the first call: the process has its slots, those with number 0 to write and those with number 2 to read, and has done nothing
+  -- Before the first call: the process has its slots, those with number 0 to write and those with number 2
+  -- to read, and has done nothing
   pub record IsReady (o : T) (n who : ℕ) (me : Me T (View (TripleSight T))) : Type 0 where
     pub process : Process (TripleSight T)
     pub one : me.0 ≡ Has (process ∷ [])

@@ -43,7 +43,8 @@ module _ {T : Type 0} (fits : T → Type 0) (rises : T → T → Type 0) (o : T)
   cell_tells now s id (Writer p) r at any = tells_by fits rises o now s r id p at
 
   pub cell_hears : CellHears Rule Any hears_of
-  cell_hears now s id other (Reader g) (Told x) r at there ne any = hears_by fits rises o now s r id other g x at there ne
+  cell_hears now s id other (Reader g) (Told x) r at there ne any =
+      hears_by fits rises o now s r id other g x at there ne
   cell_hears now s id other (Reader g) Spent r at there ne any = stays now s r id (Reader g) at
   cell_hears now s id other (Reader g) (Writer p) r at there ne any = stays now s r id (Reader g) at
   cell_hears now s id other (Reader g) (Reader h) r at there ne any = stays now s r id (Reader g) at
@@ -54,7 +55,8 @@ module _ {T : Type 0} (fits : T → Type 0) (rises : T → T → Type 0) (o : T)
   cell_hears now s id other (Both p g) w r at there ne any = stays now s r id (Both p g) at
 
   -- the cell k at the start, whose writer and reader are two of n processes
-  pub cell_starts : (n k : ℕ) (vs : List V) → fits o → ((j : ℕ) (v : V) → get_elem? vs j ≡ some v → v ≡ first_part o n j k) →
+  pub cell_starts : (n k : ℕ) (vs : List V) → fits o →
+      ((j : ℕ) (v : V) → get_elem? vs j ≡ some v → v ≡ first_part o n j k) →
       Rule 0 (record { words = 1 ∷ []; homes = some o ∷ some o ∷ some o ∷ []; views = vs })
   cell_starts n k vs f first =
       starts_by fits rises o f (writer_of n k) (reader_of n k) vs

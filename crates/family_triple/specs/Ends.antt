@@ -15,8 +15,8 @@ use Rattle.family_triple.specs.Tables.{IsDone, Done}
 
 module _ {T : Type 0} (fits : T → Type 0) (rises : T → T → Type 0) (o : T) where
   -- one cell, with its writer's notes and its reader's
-  cell_done : (s : State T (TripleSight T)) (r : TripleRule fits rises o s) (i j : ℕ) (p : WriterNotes T) (g : ReaderNotes T) →
-      get_elem? s.views i ≡ some (Writer p) → get_elem? s.views j ≡ some (Reader g) → IsDone o p g
+  cell_done : (s : State T (TripleSight T)) (r : TripleRule fits rises o s) (i j : ℕ) (p : WriterNotes T)
+      (g : ReaderNotes T) → get_elem? s.views i ≡ some (Writer p) → get_elem? s.views j ≡ some (Reader g) → IsDone o p g
   cell_done s r i j p g there here =
       let put_is : p ≡ r.put = (r.each_seat i (Writer p) there).0 in
       let get_is : g ≡ r.get = (r.each_seat j (Reader g) here).0 in

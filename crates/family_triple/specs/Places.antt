@@ -1,5 +1,5 @@
--- Where the cells of a family of triple buffers lie: the word of each on a line of eight words, and its three slots side by side (this
--- project's own).
+-- Where the cells of a family of triple buffers lie: the word of each on a line of eight words, and its three slots
+-- side by side (this project's own).
 use Rattle.std.specs.Prelude.{ℕ, ◌+◌, ◌-◌, ◌*◌, nat_lt, cond}
 use Rattle.family_table.specs.Layouts.{Layout}
 

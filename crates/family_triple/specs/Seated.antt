@@ -93,4 +93,5 @@ module _ {T : Type 0} where
     pub one : s.seat.inner.me.0 ≡ Has (known_by s ∷ [])
     pub number : (known_by s).who ≡ i
     pub rest : IsAtRest o n (known_by s) s.stored.fills s.stored.reads s.seat.inner.me.1
-    pub unused : IsUnused (known_by s).clock (known_by s).times (writes_to o n (known_by s)) (reads_from o n (known_by s))
+    pub unused : IsUnused (known_by s).clock (known_by s).times (writes_to o n (known_by s))
+        (reads_from o n (known_by s))

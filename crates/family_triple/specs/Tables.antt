@@ -26,11 +26,13 @@ module _ {T : Type 0} where
     pub held : IsRotated v.held (held_slots me.1)
 
   -- it writes cell k with these notes, or reads it
-  pub record HasWriter (me : Me T (View (TripleSight T))) (k : ℕ) (v : Process (TripleSight T)) (p : WriterNotes T) : Type 0 where
+  pub record HasWriter (me : Me T (View (TripleSight T))) (k : ℕ) (v : Process (TripleSight T))
+      (p : WriterNotes T) : Type 0 where
     pub process : HasProcess me k v
     pub notes : of_cell Spent k v.parts ≡ Writer p
 
-  pub record HasReader (me : Me T (View (TripleSight T))) (k : ℕ) (v : Process (TripleSight T)) (g : ReaderNotes T) : Type 0 where
+  pub record HasReader (me : Me T (View (TripleSight T))) (k : ℕ) (v : Process (TripleSight T))
+      (g : ReaderNotes T) : Type 0 where
     pub process : HasProcess me k v
     pub notes : of_cell Spent k v.parts ≡ Reader g
 

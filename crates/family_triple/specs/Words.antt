@@ -20,7 +20,15 @@ module _ {T : Type 0} where
   writes_by p = record { items = p.written; times = p.times }
 
   abbrev pub reads_by : ReaderNotes T → ReadAccesses T
-  reads_by g = record { answers = g.answers; numbers = g.numbers; known = g.known; told = g.told; heard = g.heard; times = g.times }
+  reads_by g =
+      record {
+        answers = g.answers;
+        numbers = g.numbers;
+        known = g.known;
+        told = g.told;
+        heard = g.heard;
+        times = g.times;
+      }
 
 module _ {T : Type 0} (o : T) (n : ℕ) where
   -- what a process wrote to process j, and what it read from it; of itself it has nothing
@@ -59,8 +67,8 @@ module _ {T : Type 0} (o : T) where
     pub numbered : notes.slot ≡ number
     pub slot : get_elem? slots at ≡ some (slot_at k notes.slot, notes.at_hand.value)
 
-  -- a process of n between two calls: its seat has the slots of its row, in turn, and then those of its column, and keeps their numbers.
-  -- Of cells that it doesn't write it tells nothing
+  -- a process of n between two calls: its seat has the slots of its row, in turn, and then those of its column, and
+  -- keeps their numbers. Of cells that it doesn't write it tells nothing
   pub record IsAtRest (n : ℕ) (v : Process (TripleSight T)) (fills reads : List ℕ) (slots : List (ℕ × T)) : Type 0 where
     pub inside : v.who < n
     pub parts : length v.parts ≡ n * n
@@ -69,6 +77,8 @@ module _ {T : Type 0} (o : T) where
     pub sized : (length fills ≡ 16) × (length reads ≡ 16)
     pub quiet : (k : ℕ) → writer_of n k ≢ v.who → receipt_for (of_cell Spent k v.parts) ≡ Spent
     pub row : (j : ℕ) → j < n → j ≢ v.who →
-        IsRow (place n v.who j) (of_cell Spent (place n v.who j) v.parts) slots (among v.who j) (slice_index_or fills j 0)
+        IsRow (place n v.who j) (of_cell Spent (place n v.who j) v.parts) slots (among v.who j)
+        (slice_index_or fills j 0)
     pub column : (j : ℕ) → j < n → j ≢ v.who →
-        IsColumn (place n j v.who) (of_cell Spent (place n j v.who) v.parts) slots ((n - 1) + among v.who j) (slice_index_or reads j 0)
+        IsColumn (place n j v.who) (of_cell Spent (place n j v.who) v.parts) slots ((n - 1) + among v.who j)
+        (slice_index_or reads j 0)

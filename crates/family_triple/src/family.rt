@@ -34,15 +34,16 @@ pub struct TripleFamily<T: Planned> {
     table: FamilyTable<T>,
 }
 
-/// The slot of the register to each process that the next write fills, and of the one from each process the slot of the last answer.
+/// The slot of the register to each process that the next write fills, and of the one from each process
+/// the slot of the last answer.
 #[derive(Clone, Copy)]
 pub struct Slots {
     fills: [u64; 16],
     reads: [u64; 16],
 }
 
-/// The right to write and to read as one of the processes. Of each register that it writes it holds a slot, and of each that it reads the
-/// slot of its last answer.
+/// The right to write and to read as one of the processes. Of each register that it writes it holds a slot, and of each
+/// that it reads the slot of its last answer.
 pub type TripleSeat<T> = ProcessSeat<T, TripleSight<T>, Slots>;
 
 /// A receipt of a process for all that it has written.
@@ -235,11 +236,13 @@ impl<T: Planned> Family<T> for TripleFamily<T> {
     }
 
     fn so_far(&self, seats: &mut Vec<TripleSeat<T>>)
-        requires { (vec_len seats.old ≡ processes_of self.now) × Each (λ i s. IsSeat self.now s × (number_of s ≡ i)) seats.old.items }
+        requires { (vec_len seats.old ≡ processes_of self.now)
+            × Each (λ i s. IsSeat self.now s × (number_of s ≡ i)) seats.old.items }
         ensures same { (seats.new.items ≡ seats.old.items) × (vec_capacity seats.new ≡ vec_capacity seats.old) }
         ensures scheduled { (steps : List ℕ) × IsSchedule (processes_of self.now) steps
             × Each (λ i s. times_of s ≡ positions 1 i steps) seats.old.items }
-        ensures atomic { EachTwo (λ i j s t. IsAtomicCell (opening_of self.now) (writes_of s j) (reads_of t i)) seats.old.items }
+        ensures atomic { EachTwo
+            (λ i j s t. IsAtomicCell (opening_of self.now) (writes_of s j) (reads_of t i)) seats.old.items }
     {
         show(&self.table.rows, seats);
     }
@@ -248,7 +251,8 @@ impl<T: Planned> Family<T> for TripleFamily<T> {
         requires { (vec_len seats ≡ processes_of self) × Each (λ i s. IsSeat self s × (number_of s ≡ i)) seats.items }
         ensures scheduled { (steps : List ℕ) × IsSchedule (processes_of self) steps
             × Each (λ i s. times_of s ≡ positions 1 i steps) seats.items }
-        ensures atomic { EachTwo (λ i j s t. IsAtomicCell (opening_of self) (writes_of s j) (reads_of t i)) seats.items }
+        ensures atomic { EachTwo
+            (λ i j s t. IsAtomicCell (opening_of self) (writes_of s j) (reads_of t i)) seats.items }
     {
         let TripleFamily { table } = self;
         let FamilyTable { rows } = table;

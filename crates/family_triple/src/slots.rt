@@ -1,6 +1,5 @@
-//! The slots that a seat has between two calls: those of the registers that its process writes, in turn, and then those of the registers
-//! that
-//! it reads. The slot of a call comes first for as long as the call lasts.
+//! The slots that a seat has between two calls: those of the registers that its process writes, in turn, and then those
+//! of the registers that it reads. The slot of a call comes first for as long as the call lasts.
 ghost use Rattle.std.specs.Prelude.{◌≡◌, ◌≢◌, ℕ, ◌+◌, ◌*◌, ◌-◌, ◌<◌, ◌≤◌, List, [], ◌∷◌, ◌++◌, length};
 ghost use Rattle.cell_triple.specs.declared.notes.ReaderNotes.{ReaderNotes};
 ghost use Rattle.cell_triple.specs.Steps.{TripleSight};
@@ -72,7 +71,8 @@ pub(crate) fn take_slots<T: Planned>(
     }
 }
 
-/// Takes the slot in the middle in place of the seat's first, where the cell's word has the mark. Then the first slot has the answer.
+/// Takes the slot in the middle in place of the seat's first, where the cell's word has the mark. Then
+/// the first slot has the answer.
 #[inline]
 pub(crate) fn newest<T: Planned, K: Opening<T>>(
     table: &FamilyTable<T>,
@@ -85,14 +85,15 @@ pub(crate) fn newest<T: Planned, K: Opening<T>>(
         × (K.limit ≡ table.now.rows.inner.shared.key.limit) }
     requires own { seat.old.inner.table_id ≡ table.now.rows.inner.shared.table_id }
     requires place { cell < (triples table.now.rows.inner.shared.key.processes).cells }
-    requires idle { (v : Process (TripleSight T)) × (g : ReaderNotes T) × (cs : List (ℕ × T)) × HasReader seat.old.inner.me cell v g
+    requires idle { (v : Process (TripleSight T)) × (g : ReaderNotes T) × (cs : List (ℕ × T))
+        × HasReader seat.old.inner.me cell v g
         × (seat.old.inner.me.1 ≡ (slot_at cell g.slot, g.at_hand.value) ∷ cs)
         × (g.has ≡ 1) × (g.asked ≡ 0) × (g.slot < 3) × (slot ≡ g.slot)
         × MayDecide (plan_of T.plan table.now.rows.inner.shared.key) v cell g }
     ensures own { seat.new.inner.table_id ≡ seat.old.inner.table_id }
-    ensures looked { (v : Process (TripleSight T)) (g : ReaderNotes T) (cs : List (ℕ × T)) → HasReader seat.old.inner.me cell v g →
-        seat.old.inner.me.1 ≡ (slot_at cell g.slot, g.at_hand.value) ∷ cs → g.slot < 3 → slot ≡ g.slot →
-        HasLooked T.fits T.rises cell v g cs seat.new.inner.me result }
+    ensures looked { (v : Process (TripleSight T)) (g : ReaderNotes T) (cs : List (ℕ × T)) →
+        HasReader seat.old.inner.me cell v g → seat.old.inner.me.1 ≡ (slot_at cell g.slot, g.at_hand.value) ∷ cs →
+        g.slot < 3 → slot ≡ g.slot → HasLooked T.fits T.rises cell v g cs seat.new.inner.me result }
     ensures shown { ShowsAll T.plan table.now.rows.inner.shared.key seat.new.inner.me }
 {
     let found = table.look::<K>(seat, cell);

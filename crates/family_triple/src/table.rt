@@ -1,5 +1,5 @@
-//! The table of a family of triple buffers and every step of the mechanism on it. No other module of this crate steps on the table but by
-//! what stands here, and by what is so of any family's table.
+//! The table of a family of triple buffers and every step of the mechanism on it. No other module of this crate steps
+//! on the table but by what stands here, and by what is so of any family's table.
 ghost use Rattle.std.specs.Prelude.{◌≡◌, ℕ, ◌+◌, ◌*◌, ◌-◌, ◌<◌, ◌≤◌, List, [], ◌∷◌, IfOk};
 ghost use Rattle.cell_contract.specs.Plans.{Doings, HasNoSteps};
 ghost use mathlib.Core.Option.{none};
@@ -78,10 +78,11 @@ impl<T: Planned> FamilyTable<T> {
     pub(super) fn take_put(&self, seat: &mut FamilySeat<T>, cell: usize) -> u64
         requires own { seat.old.inner.table_id ≡ self.now.rows.inner.shared.table_id }
         requires place { cell < (triples self.now.rows.inner.shared.key.processes).cells }
-        requires bare { (v : Process (TripleSight T)) × (p : WriterNotes T) × HasWriter seat.old.inner.me cell v p × (p.has ≡ 0) }
+        requires bare { (v : Process (TripleSight T)) × (p : WriterNotes T)
+            × HasWriter seat.old.inner.me cell v p × (p.has ≡ 0) }
         ensures own { seat.new.inner.table_id ≡ seat.old.inner.table_id }
-        ensures took { put_takes (step self.now.rows.inner.shared.table_id.slots (8 * cell + 8) 0 0 none) seat.old.inner.me result
-            seat.new.inner.me }
+        ensures took { put_takes (step self.now.rows.inner.shared.table_id.slots (8 * cell + 8) 0 0 none)
+            seat.old.inner.me result seat.new.inner.me }
     {
         self.rows
             .inner
@@ -93,10 +94,11 @@ impl<T: Planned> FamilyTable<T> {
     pub(super) fn take_get(&self, seat: &mut FamilySeat<T>, cell: usize) -> u64
         requires own { seat.old.inner.table_id ≡ self.now.rows.inner.shared.table_id }
         requires place { cell < (triples self.now.rows.inner.shared.key.processes).cells }
-        requires bare { (v : Process (TripleSight T)) × (g : ReaderNotes T) × HasReader seat.old.inner.me cell v g × (g.has ≡ 0) }
+        requires bare { (v : Process (TripleSight T)) × (g : ReaderNotes T)
+            × HasReader seat.old.inner.me cell v g × (g.has ≡ 0) }
         ensures own { seat.new.inner.table_id ≡ seat.old.inner.table_id }
-        ensures took { get_takes (step self.now.rows.inner.shared.table_id.slots (8 * cell + 8) 0 0 none) seat.old.inner.me result
-            seat.new.inner.me }
+        ensures took { get_takes (step self.now.rows.inner.shared.table_id.slots (8 * cell + 8) 0 0 none)
+            seat.old.inner.me result seat.new.inner.me }
     {
         self.rows
             .inner
@@ -104,7 +106,8 @@ impl<T: Planned> FamilyTable<T> {
             .load::<GetTakes>(&mut seat.inner, word_of(cell))
     }
 
-    /// The writer's swap, the whole write: its slot goes into the middle, with the mark, and it takes the slot that was there.
+    /// The writer's swap, the whole write: its slot goes into the middle, with the mark, and it
+    /// takes the slot that was there.
     #[inline]
     pub(super) fn publish<K: Opening<T>>(
         &self,
@@ -123,8 +126,8 @@ impl<T: Planned> FamilyTable<T> {
             × T.rises (last_or p.opening.value p.written) x × (new ≡ p.slot + 4)
             × MayPublish (plan_of T.plan self.now.rows.inner.shared.key) v cell p x }
         ensures own { seat.new.inner.table_id ≡ seat.old.inner.table_id }
-        ensures swapped { publishes (step self.now.rows.inner.shared.table_id.slots (8 * cell + 8) new 0 none) seat.old.inner.me result
-            seat.new.inner.me }
+        ensures swapped { publishes (step self.now.rows.inner.shared.table_id.slots (8 * cell + 8) new 0 none)
+            seat.old.inner.me result seat.new.inner.me }
         ensures shown { ShowsAll T.plan self.now.rows.inner.shared.key seat.new.inner.me }
     {
         self.rows
@@ -156,7 +159,8 @@ impl<T: Planned> FamilyTable<T> {
             .load::<Showing<Looks, TripleMechanism, K>>(&mut seat.inner, word_of(cell))
     }
 
-    /// The reader's swap, where its load found the mark: its slot goes into the middle, and it takes the slot that was there.
+    /// The reader's swap, where its load found the mark: its slot goes into the middle, and it
+    /// takes the slot that was there.
     #[inline]
     pub(super) fn fetch<K: Opening<T>>(
         &self,
@@ -169,13 +173,14 @@ impl<T: Planned> FamilyTable<T> {
             × (K.limit ≡ self.now.rows.inner.shared.key.limit) }
         requires own { seat.old.inner.table_id ≡ self.now.rows.inner.shared.table_id }
         requires place { cell < (triples self.now.rows.inner.shared.key.processes).cells }
-        requires marked { (v : Process (TripleSight T)) × (g : ReaderNotes T) × (cs : List (ℕ × T)) × HasReader seat.old.inner.me cell v g
+        requires marked { (v : Process (TripleSight T)) × (g : ReaderNotes T) × (cs : List (ℕ × T))
+            × HasReader seat.old.inner.me cell v g
             × (seat.old.inner.me.1 ≡ (slot_at cell g.slot, g.at_hand.value) ∷ cs) × (g.has ≡ 1) × (g.asked ≡ 1)
             × (new ≡ g.slot)
             × MayDecide (plan_of T.plan self.now.rows.inner.shared.key) v cell g }
         ensures own { seat.new.inner.table_id ≡ seat.old.inner.table_id }
-        ensures swapped { fetches T.fits T.rises (step self.now.rows.inner.shared.table_id.slots (8 * cell + 8) new 0 none)
-            seat.old.inner.me result
+        ensures swapped { fetches T.fits T.rises
+            (step self.now.rows.inner.shared.table_id.slots (8 * cell + 8) new 0 none) seat.old.inner.me result
             seat.new.inner.me }
         ensures shown { ShowsAll T.plan self.now.rows.inner.shared.key seat.new.inner.me }
     {

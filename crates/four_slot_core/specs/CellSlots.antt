@@ -1,5 +1,5 @@
--- The slot accesses of a cell that is stepped from its opening, as intervals of positions, and what a cell over safe slots answers
--- (L. Lamport, On Interprocess Communication, Parts I and II, Distributed Computing 1, 1986).
+-- The slot accesses of a cell that is stepped from its opening, as intervals of positions, and what a cell over safe
+-- slots answers (L. Lamport, On Interprocess Communication, Parts I and II, Distributed Computing 1, 1986).
 use Rattle.std.specs.Prelude.{◌≡◌, ℕ, List, slice_get, Some, IsSome}
 use Rattle.four_slot_core.specs.Events.{slot_number}
 use Rattle.four_slot_core.specs.SafeSlots.{IsSafe, SlotRead, SlotWrite}
@@ -20,8 +20,8 @@ module _ {R : Type 0} where
     pub ends : (reads_of t).at m 4 ≡ Some r.ends
     pub answer : slice_get t.answers m ≡ Some r.answer
 
-  -- the answers are those of a cell over safe slots, each of which has the opening first: with all slot writes, each slot read
-  -- answers as a safe slot does
+  -- the answers are those of a cell over safe slots, each of which has the opening first: with all slot writes, each
+  -- slot read answers as a safe slot does
   pub record IsOverSafeSlots (opening noise : R) (items : ℕ → R) (t : Trace R) : Type 0 where
     pub writes : List (SlotWrite R)
     pub each : (k : ℕ) (w : SlotWrite R) → slice_get writes k ≡ Some w → IsSlotWrite items t k w

@@ -1,4 +1,5 @@
--- How far each side of a cell has come: its steps, slots and answers, by the stage of the operation under way (this project's own).
+-- How far each side of a cell has come: its steps, slots and answers, by the stage of the operation
+-- under way (this project's own).
 use Rattle.std.specs.Prelude.{◌≡◌, ℕ, ◌+◌, ◌*◌, ◌<◌, List, length, slice_get, Some}
 use Rattle.four_slot_core.specs.declared.state.Stage.{Stage}
 use Rattle.four_slot_core.specs.declared.state.Stage.TheVariants.{W1, W2, W3, W4, W5}

@@ -1,7 +1,7 @@
 -- The events of the four-slot cell, as functions of its state (H. Simpson, Four-slot fully asynchronous communication
--- mechanism, IEE Proceedings E, 1990). The writer remembers the two slot bits and doesn't load them. Slots are safe registers
--- (L. Lamport, On Interprocess Communication, Parts I and II, Distributed Computing 1, 1986): a slot read that meets a write of
--- its slot gives the noise.
+-- mechanism, IEE Proceedings E, 1990). The writer remembers the two slot bits and doesn't load them. Slots are safe
+-- registers (L. Lamport, On Interprocess Communication, Parts I and II, Distributed Computing 1, 1986): a slot read
+-- that meets a write of its slot gives the noise.
 use Rattle.std.specs.Prelude.{◌≡◌, ℕ, ◌+◌, ◌*◌, Bool, true, false, not, ◌&&◌, ◌||◌, None, Some, [], ◌∷◌, if◌then◌else◌}
 use Rattle.four_slot_core.specs.declared.state.Sides.{Sides}
 use Rattle.four_slot_core.specs.declared.state.Slot.{Slot}

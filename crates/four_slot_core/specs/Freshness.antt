@@ -1,5 +1,5 @@
--- What every state of a cell keeps of the numbers of its records, where a write's record has the number of the write: the
--- slot that a pair's bit names never gets an older record (this project's).
+-- What every state of a cell keeps of the numbers of its records, where a write's record has the number of the write:
+-- the slot that a pair's bit names never gets an older record (this project's).
 use Rattle.std.specs.Prelude.{◌≡◌, ℕ, ◌+◌, ◌≤◌, Bool, ◌⊎◌}
 use Rattle.four_slot_core.specs.declared.state.State.{State}
 use Rattle.four_slot_core.specs.declared.state.Stage.{Stage}

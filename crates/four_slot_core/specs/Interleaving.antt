@@ -42,13 +42,13 @@ Reads e s t = IsReadEvent s (read_stage e) t
 -- same; or the first event of one list leads to a state from which some interleaving of the others does
 pub data Leads {R : Type 0} : List (WriteEvent R) → List (ReadEvent R) → State R → State R → Type 0 where
   Stays : (s t : State R) → s ≡ t → Leads [] [] s t
-  WriterFirst : (e : WriteEvent R) (ws : List (WriteEvent R)) (rs : List (ReadEvent R)) (s m t : State R) → Writes e s m →
-      Leads ws rs m t → Leads (e ∷ ws) rs s t
+  WriterFirst : (e : WriteEvent R) (ws : List (WriteEvent R)) (rs : List (ReadEvent R)) (s m t : State R) →
+      Writes e s m → Leads ws rs m t → Leads (e ∷ ws) rs s t
   ReaderFirst : (e : ReadEvent R) (ws : List (WriteEvent R)) (rs : List (ReadEvent R)) (s m t : State R) → Reads e s m →
       Leads ws rs m t → Leads ws (e ∷ rs) s t
 
--- the record of the last finished write after these events of the writer, from the item of the write in progress and the
--- record of the last finished write before them: W1 takes an item, and W5 finishes the write
+-- the record of the last finished write after these events of the writer, from the item of the write in progress and
+-- the record of the last finished write before them: W1 takes an item, and W5 finishes the write
 abbrev pub last_finished : {R : Type 0} → List (WriteEvent R) → R → R → R
 last_finished [] item last = last
 last_finished (W1 x ∷ ws) item last = last_finished ws x.value last

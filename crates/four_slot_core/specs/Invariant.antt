@@ -1,5 +1,5 @@
--- What every state of a cell keeps (this project's invariant). A writer between W1 and W5 has made W1 and not W5; so with
--- the others.
+-- What every state of a cell keeps (this project's invariant). A writer between W1 and W5 has made W1
+-- and not W5; so with the others.
 use Rattle.std.specs.Prelude.{◌≡◌, ◌≢◌, false, not, Some, ◌⊎◌}
 use Rattle.four_slot_core.specs.declared.state.Slot.{Slot}
 use Rattle.four_slot_core.specs.declared.state.State.{State}

@@ -17,12 +17,18 @@ actor Reader = 1
 -- the schedule as one term: the writer makes these writes, the reader so many reads, each in five steps
 abbrev pub span_of : {R : Type 0} → List Turn → List R → ℕ → Span R
 span_of steps writes reads =
-    record { limit = max_limit; accesses = cell_accesses; plans = map Write writes ∷ (replicate reads Read ∷ []); steps = map actor steps }
+    record {
+      limit = max_limit;
+      accesses = cell_accesses;
+      plans = map Write writes ∷ (replicate reads Read ∷ []);
+      steps = map actor steps;
+    }
 
 abbrev pub cell_span : {R : Type 0} → CellSchedule R → Span R
 cell_span s = span_of s.steps s.writes s.reads
 
--- why a schedule isn't played: a step without an operation, the first one; or want of memory, where each step has its own
+-- why a schedule isn't played: a step without an operation, the first one; or want of
+-- memory, where each step has its own
 abbrev pub IsRefusal : {R : Type 0} → Span R → PlayError → Type 0
 IsRefusal span NoMemory = HasOperations (span ∷ [])
 IsRefusal span (TooManySteps position) = IsFirstOverrun (span ∷ []) position

@@ -1,5 +1,6 @@
--- Safe slots (L. Lamport, On Interprocess Communication, Parts I and II, Distributed Computing 1, 1986): what a slot read gives,
--- by the intervals of the slot accesses alone; and the slot accesses of a cell that is stepped from any state.
+-- Safe slots (L. Lamport, On Interprocess Communication, Parts I and II, Distributed Computing 1, 1986):
+-- what a slot read gives, by the intervals of the slot accesses alone; and the slot accesses of a cell
+-- that is stepped from any state.
 use Rattle.std.specs.Prelude.{◌≡◌, ℕ, ◌<◌, ◌≤◌, ◌&&◌, List, [], ◌∷◌, ◌++◌, slice_get, Option, None, Some, ◌⊎◌}
 use Rattle.std.specs.List.{fold}
 use Rattle.four_slot_core.specs.declared.schedule.Turn.{Turn}
@@ -36,7 +37,8 @@ Meets w r = (w.slot ≡ r.slot) × (w.begins ≤ r.ends) × ((e : ℕ) → w.end
 abbrev pub EndsBefore : {R : Type 0} → SlotWrite R → Slot → ℕ → Type 0
 EndsBefore w slot at = (w.slot ≡ slot) × (e : ℕ) × (w.ends ≡ Some e) × (e < at)
 
--- the record of the last write that ended in this slot before this position; where there is none, the first record there
+-- the record of the last write that ended in this slot before this position; where there is
+-- none, the first record there
 abbrev pub IsLastRecord : {R : Type 0} → (Slot → R) → List (SlotWrite R) → Slot → ℕ → R → Type 0
 IsLastRecord {R} first writes slot at x =
     (((i : ℕ) (w : SlotWrite R) → slice_get writes i ≡ Some w → ¬ EndsBefore w slot at) × (x ≡ first slot))
@@ -44,12 +46,14 @@ IsLastRecord {R} first writes slot at x =
     × ((j : ℕ) (v : SlotWrite R) → i < j → slice_get writes j ≡ Some v → ¬ EndsBefore v slot at) × (x ≡ w.item))
 
 -- a safe slot's answer: a read that meets a write gives the noise, any other the last record before it
-pub record IsSafe {R : Type 0} (first : Slot → R) (noise : R) (writes : List (SlotWrite R)) (r : SlotRead R) : Type 0 where
+pub record IsSafe {R : Type 0} (first : Slot → R) (noise : R) (writes : List (SlotWrite R))
+    (r : SlotRead R) : Type 0 where
   pub noisy : (i : ℕ) (w : SlotWrite R) → slice_get writes i ≡ Some w → Meets w r → r.answer ≡ noise
-  pub quiet : ((i : ℕ) (w : SlotWrite R) → slice_get writes i ≡ Some w → ¬ Meets w r) → IsLastRecord first writes r.slot r.begins r.answer
+  pub quiet : ((i : ℕ) (w : SlotWrite R) → slice_get writes i ≡ Some w → ¬ Meets w r) →
+      IsLastRecord first writes r.slot r.begins r.answer
 
--- a cell, its slot writes that have ended, the position of the last W2, its slot reads that have ended, and the position of
--- the last R4
+-- a cell, its slot writes that have ended, the position of the last W2, its slot reads that have ended,
+-- and the position of the last R4
 pub record SlotTrace (R : Type 0) : Type 0 where
   pub cell : State R
   pub ended : List (SlotWrite R)
@@ -79,7 +83,8 @@ entered_after R3 at entered = at
 entered_after _ at entered = entered
 
 abbrev pub reads_after : {R : Type 0} → ReaderStage → ℕ → State R → ℕ → List (SlotRead R) → List (SlotRead R)
-reads_after R4 at s entered reads = reads ++ record { slot = s.read; begins = entered; ends = at; answer = answer s } ∷ []
+reads_after R4 at s entered reads =
+    reads ++ record { slot = s.read; begins = entered; ends = at; answer = answer s } ∷ []
 reads_after _ at s entered reads = reads
 
 -- one step, where the writer's step at a position has the item `items` of it
@@ -97,12 +102,13 @@ slots_step items t Reader at =
       entered = entered_after t.cell.reader at t.entered;
     }
 
--- in this state the slot read in progress, if there is one, has met the slot write in progress where that is of the same slot,
--- and no other
+-- in this state the slot read in progress, if there is one, has met the slot write in progress where that is
+-- of the same slot, and no other
 abbrev pub IsMarked : {R : Type 0} → State R → Type 0
 IsMarked s = IsReading s.reader → s.met ≡ (is_writing s.writer && same_slot s.write s.read)
 
 -- a cell stepped from this state; slot accesses in progress there began at position 0
 abbrev pub slot_trace : {R : Type 0} → State R → (ℕ → R) → List Moment → SlotTrace R
 slot_trace s items moments =
-    fold (λ t m. slots_step items t m.turn m.at) (record { cell = s; ended = []; since = 0; reads = []; entered = 0 }) moments
+    fold (λ t m. slots_step items t m.turn m.at)
+    (record { cell = s; ended = []; since = 0; reads = []; entered = 0 }) moments

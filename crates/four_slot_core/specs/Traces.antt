@@ -36,8 +36,8 @@ abbrev pub moments_of : {E : Type 0} → (E → Option Turn) → ℕ → List E 
 moments_of turn n [] = []
 moments_of turn n (e ∷ es) = moment_at (turn e) n ++ moments_of turn (n + 1) es
 
--- a cell after some steps: the positions of the writer's and of the reader's, the slot of each write since its W1 and of each
--- read since its R3, and the answer of each read that has ended
+-- a cell after some steps: the positions of the writer's and of the reader's, the slot of each write since its W1 and
+-- of each read since its R3, and the answer of each read that has ended
 pub record Trace (R : Type 0) : Type 0 where
   pub cell : State R
   pub writer : List ℕ
@@ -67,7 +67,8 @@ then_writer at item t =
     record t {
       cell = after_write t.cell.writer item t.cell;
       writer = t.writer ++ at ∷ [];
-      write_slots = shown_by_write t.cell.writer t.write_slots (slot_number (after_write t.cell.writer item t.cell).write);
+      write_slots =
+          shown_by_write t.cell.writer t.write_slots (slot_number (after_write t.cell.writer item t.cell).write);
     }
 
 -- the reader's next event
@@ -87,7 +88,14 @@ then_step items t Reader at = then_reader at t
 
 abbrev pub trace_start : {R : Type 0} → R → R → Trace R
 trace_start opening noise =
-    record { cell = opening_state opening noise; writer = []; reader = []; write_slots = []; read_slots = []; answers = [] }
+    record {
+      cell = opening_state opening noise;
+      writer = [];
+      reader = [];
+      write_slots = [];
+      read_slots = [];
+      answers = [];
+    }
 
 abbrev pub trace : {R : Type 0} → R → R → (ℕ → R) → List Moment → Trace R
 trace opening noise items moments = fold (λ t m. then_step items t m.turn m.at) (trace_start opening noise) moments

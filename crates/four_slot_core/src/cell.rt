@@ -1,6 +1,7 @@
 ghost use Rattle.std.specs.Prelude.{◌≡◌, ◌<◌, Bool, true, false, not};
 ghost use Rattle.four_slot_core.specs.declared.state.State.{State};
-ghost use Rattle.four_slot_core.specs.Events.{bits_of, bit_number, in_slot_of, IsReadEvent, IsWriteEvent, opening_state, reader_state};
+ghost use Rattle.four_slot_core.specs.Events.{bits_of, bit_number, in_slot_of, IsReadEvent, IsWriteEvent};
+ghost use Rattle.four_slot_core.specs.Events.{opening_state, reader_state};
 ghost use Rattle.four_slot_core.specs.Events.{same_slot, side, slot_number, with_side};
 
 use crate::state::{Bits, InSlot, ReadStage, ReaderStage, Sides, Slot, Stage, State};
@@ -111,8 +112,8 @@ impl<R: Copy> CellCore<R> {
         cell
     }
 
-    /// Makes the writer's next event and tells which it was. The item of a write is taken at W1; at the other events it has
-    /// no effect.
+    /// Makes the writer's next event and tells which it was. The item of a write is taken at W1; at the
+    /// other events it has no effect.
     pub fn write_step(&mut self, item: R) -> Stage
         ensures { IsWriteEvent item self.old result self.new }
     {

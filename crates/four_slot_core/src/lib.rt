@@ -1,5 +1,5 @@
-//! The four-slot register of H. Simpson, Four-slot fully asynchronous communication mechanism, IEE Proceedings E, 1990: one
-//! writer and one reader share a record without waiting for each other, over four slots that are only safe.
+//! The four-slot register of H. Simpson, Four-slot fully asynchronous communication mechanism, IEE Proceedings E, 1990:
+//! one writer and one reader share a record without waiting for each other, over four slots that are only safe.
 #![tactic(auto)]
 
 mod cell;

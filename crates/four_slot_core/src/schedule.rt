@@ -7,8 +7,8 @@ pub enum Turn {
     Reader,
 }
 
-/// What a cell's writer and reader are to do, and in which order they make their steps. Each operation takes five steps of
-/// its side, one for each event.
+/// What a cell's writer and reader are to do, and in which order they make their steps. Each operation takes five steps
+/// of its side, one for each event.
 #[derive(Drop)]
 pub struct CellSchedule<R> {
     /// The record of all four slots at first.

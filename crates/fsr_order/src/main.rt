@@ -1,4 +1,5 @@
-//! `fsr_order`: `fsr order` alone, which is built without what the other commands need. It takes `--order` or `--small`.
+//! `fsr_order`: `fsr order` alone, which is built without what the other commands need. It
+//! takes `--order` or `--small`.
 #![tactic(auto)]
 
 use fsr_order_answers::{run, show_of};

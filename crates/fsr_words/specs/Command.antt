@@ -1,7 +1,9 @@
 -- The command that the words name, as clap matches them (this project's own).
-use Rattle.std.specs.Prelude.{◌≡◌, ◌⊎◌, ℕ, Bool, List, codes, true, false, Option, Some, None, option_and_then, if◌then◌else◌}
+use Rattle.std.specs.Prelude.{◌≡◌, ◌⊎◌, ℕ, Bool, List, codes, true, false, Option, Some, None}
+use Rattle.std.specs.Prelude.{option_and_then, if◌then◌else◌}
 use Rattle.std.specs.Str.{bytes_eq}
-use Rattle.clap.specs.Words.{App, Row, Rule, Shape, Text, first_of, new_app, new_rule, with_rule, with_subcommand, fault_of, subcommand_of}
+use Rattle.clap.specs.Words.{App, Row, Rule, Shape, Text, first_of, new_app, new_rule, with_rule}
+use Rattle.clap.specs.Words.{with_subcommand, fault_of, subcommand_of}
 use Rattle.clap.specs.Walk.{is_empty}
 use Rattle.clap.specs.Simple.{on_top}
 use Rattle.clap.specs.declared.builder.action.ArgAction.TheVariants.{SetTrue}
@@ -24,13 +26,15 @@ flag name = record (new_rule name) { long = Some name; action = Some SetTrue }
 
 -- the subcommand that may be told what to print
 abbrev pub over_a_log : Shape
-over_a_log = (with_rule (with_rule (with_rule (new_app (codes "order")) (new_rule (codes "FILE"))) (flag (codes "order")))
+over_a_log =
+    (with_rule (with_rule (with_rule (new_app (codes "order")) (new_rule (codes "FILE"))) (flag (codes "order")))
     (flag (codes "small"))).top
 
 -- the command line of `fsr`: one of the subcommands is required
 abbrev pub fsr : App
 fsr =
-    let none : App = on_top (λ s. record s { subcommand_required = true; has_version = true }) (new_app (codes "fsr")) in
+    let none : App =
+    on_top (λ s. record s { subcommand_required = true; has_version = true }) (new_app (codes "fsr")) in
     with_subcommand (with_subcommand (with_subcommand (with_subcommand none (over_a_document (codes "check")))
     over_a_log) (over_a_document (codes "play"))) (over_a_document (codes "race"))
 
@@ -78,8 +82,9 @@ Refuses Unknown found = found ≡ None
 abbrev pub WasAskedFor : Error → Type 0
 WasAskedFor e = (kind_of e ≡ DisplayHelp) ⊎ (kind_of e ≡ DisplayVersion)
 
--- How a run ends in which clap has something to say, by what had gone out before and after: with status 0 if that was asked for, or 5 if
--- it couldn't be written, and with 2 if the words are refused, when nothing goes out. Or with 4, if memory ran out.
+-- How a run ends in which clap has something to say, by what had gone out before and after: with status 0 if
+-- that was asked for, or 5 if it couldn't be written, and with 2 if the words are refused, when nothing goes
+-- out. Or with 4, if memory ran out.
 pub record TellsError (e : Error) (old new : Option (List ℕ)) (status : ℕ) : Type 0 where
   pub asked : WasAskedFor e → (status ≡ 0) ⊎ ((status ≡ 5) ⊎ (status ≡ 4))
   pub refused : (WasAskedFor e → ⊥) → ((status ≡ 2) ⊎ (status ≡ 4)) × (new ≡ old)

@@ -1,6 +1,7 @@
 ghost use Rattle.std.specs.Prelude.{◌≡◌, ◌≢◌, None, Some, false, map, option_map, IfOk, IfErr};
 ghost use Rattle.clap.specs.Words.{app_of, found_of, rows_of, rule_of, subcommand_rows_of, with_subcommand};
-ghost use Rattle.fsr_words.specs.Command.{fsr, command_of, file_in, file_of, flag, is_told, over_a_document, over_a_log, show_in, want_in};
+ghost use Rattle.fsr_words.specs.Command.{fsr, command_of, file_in, file_of, flag, is_told, over_a_document};
+ghost use Rattle.fsr_words.specs.Command.{over_a_log, show_in, want_in};
 ghost use Rattle.fsr_words.specs.Command.{want_named, Refuses};
 
 use clap::error::ErrorKind;

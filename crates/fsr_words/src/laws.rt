@@ -4,8 +4,8 @@ ghost use Rattle.clap.specs.declared.error.Error.{Error};
 ghost use Rattle.fsr_words.specs.Command.{TellsRefusal, WasAskedFor};
 ghost use Rattle.fsr_words.specs.declared.command.NoCommand.TheVariants.{NoMemory, Refused, Unknown};
 
-/// Of words that ask for nothing that the program does nothing goes out, and no run of them ends as one with an answer does. Help and the
-/// version, where they are asked for, never end as refused words do.
+/// Of words that ask for nothing that the program does nothing goes out, and no run of them ends as one with an answer
+/// does. Help and the version, where they are asked for, never end as refused words do.
 pub fn refusals_show()
     ensures refused { (e : Error) (old new : Option (List ℕ)) (status : ℕ) → TellsRefusal (Refused e) old new status →
         (WasAskedFor e → ⊥) → (new ≡ old) × (status ≢ 0) × (status ≢ 1) × (status ≢ 3) × (status ≢ 5) }

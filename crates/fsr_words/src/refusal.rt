@@ -10,8 +10,9 @@ use program_runs::{Answer, Program, give_answer};
 use program_streams::{Exit, Sink, tell};
 use std::alloc::Global;
 
-/// Tells why words are no command, and gives the status that the run ends with: what clap says of them, or the line of a run that found
-/// no memory. What was asked for, help or the version, goes to `out`, and what was refused to `faults`.
+/// Tells why words are no command, and gives the status that the run ends with: what clap says of them, or
+/// the line of a run that found no memory. What was asked for, help or the version, goes to `out`, and
+/// what was refused to `faults`.
 pub fn tell_refusal<O: Sink, E: Sink>(
     alloc: Global,
     program: &Program,
@@ -64,7 +65,8 @@ fn tell_error<O: Sink, E: Sink>(
     give_answer(alloc, program, Ok(answer), out, faults)
 }
 
-/// Tells that a file can't be opened, or that memory ran out, and gives the status that the run ends with: that of a failed read.
+/// Tells that a file can't be opened, or that memory ran out, and gives the status that the run ends
+/// with: that of a failed read.
 pub fn tell_unopened<E: Sink>(alloc: Global, program: &Program, file: &str, faults: &mut E) -> u8
     requires { HasRoom (E.failed faults.old) }
     ensures status { (result ≡ 5) ⊎ (result ≡ 4) }

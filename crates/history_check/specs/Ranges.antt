@@ -1,5 +1,5 @@
--- Places from a first one up to a next one, as those of a term, and the writes among them. This is this project's own; the meaning of
--- a lawful refusal stands in history_core's Orders.
+-- Places from a first one up to a next one, as those of a term, and the writes among them. This is this project's own;
+-- the meaning of a lawful refusal stands in history_core's Orders.
 use Rattle.std.specs.Prelude.{◌≡◌, ℕ, ◌+◌, ◌≤◌, Bool, true, ◌&&◌, nat_le, nat_lt, if◌then◌else◌}
 use Rattle.history_core.specs.declared.history.Kind.{Kind}
 use Rattle.history_core.specs.declared.history.Kind.TheVariants.{Refused}

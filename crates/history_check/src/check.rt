@@ -14,9 +14,9 @@ use precedence::keeps_precedence;
 use reading::reads_latest;
 use refusal::refuses_lawfully;
 
-/// The first rule of a lawful order that this order breaks, or `Lawful`. It takes no memory. It goes over the order once
-/// for precedence, once for reading, for the limit once for each term, and for listing once, and then once for each block of
-/// 4,096 operations.
+/// The first rule of a lawful order that this order breaks, or `Lawful`. It takes no memory. It goes over the order
+/// once for precedence, once for reading, for the limit once for each term, and for listing once, and then once for
+/// each block of 4,096 operations.
 pub fn check_order<R: Copy + Eq>(h: &History<R>, order: &[usize]) -> Verdict
     ensures { IsVerdict (λ x y. IsTrue (R.eq x y)) h.now.opening h.now.terms h.now.ops order.now result }
 {

@@ -1,5 +1,5 @@
--- Parts of a history, one after the other: each counts the places of its operations from 0, and in the whole they go on from
--- those of the parts before it. Parts in turn are this project's own.
+-- Parts of a history, one after the other: each counts the places of its operations from 0, and in the whole they go on
+-- from those of the parts before it. Parts in turn are this project's own.
 use Rattle.std.specs.Prelude.{◌≡◌, ℕ, ◌+◌, ◌<◌, List, [], ◌∷◌, ◌++◌, length, map, slice_get, Some}
 use Rattle.history_core.specs.declared.history.Op.{Op}
 use Rattle.history_core.specs.declared.history.Term.{Term}
@@ -42,10 +42,12 @@ module _ {R : Type 0} where
   -- and their terms
   abbrev pub terms_from : ℕ → List (Part R) → List Term
   terms_from place [] = []
-  terms_from place (part ∷ parts) = record { first = place; limit = part.limit } ∷ terms_from (place + length part.ops) parts
+  terms_from place (part ∷ parts) =
+      record { first = place; limit = part.limit } ∷ terms_from (place + length part.ops) parts
 
-  -- each part by itself has an atomic order and refuses lawfully, the first opens with `opening` and each later one with the
-  -- latest record of the part before it, `last` is the latest of the last one, and no operation precedes one of an earlier part
+  -- each part by itself has an atomic order and refuses lawfully, the first opens with `opening` and each later
+  -- one with the latest record of the part before it, `last` is the latest of the last one, and no operation
+  -- precedes one of an earlier part
   abbrev pub IsInTurn : (R → R → Type 0) → R → List (Part R) → R → Type 0
   IsInTurn Same opening [] last = opening ≡ last
   IsInTurn Same opening (part ∷ parts) last =

@@ -1,8 +1,9 @@
--- Orders of a history: which operations they list, and when they are atomic. An order is a list of places in the
--- list of operations. Operations as intervals, precedence and atomic orders are those of L. Lamport, On Interprocess
--- Communication, Parts I and II, Distributed Computing 1, 1986; unfinished operations in an order, refused writes and terms
--- are this project's own.
-use Rattle.std.specs.Prelude.{◌≡◌, ◌≢◌, ℕ, ◌+◌, ◌<◌, ◌≤◌, Bool, true, false, ◌&&◌, nat_eq, nat_lt, nat_le, List, length, take, drop}
+-- Orders of a history: which operations they list, and when they are atomic. An order is a list of places in the list
+-- of operations. Operations as intervals, precedence and atomic orders are those of L. Lamport, On Interprocess
+-- Communication, Parts I and II, Distributed Computing 1, 1986; unfinished operations in an order, refused writes and
+-- terms are this project's own.
+use Rattle.std.specs.Prelude.{◌≡◌, ◌≢◌, ℕ, ◌+◌, ◌<◌, ◌≤◌, Bool, true, false, ◌&&◌, nat_eq, nat_lt}
+use Rattle.std.specs.Prelude.{nat_le, List, length, take, drop}
 use Rattle.std.specs.Prelude.{slice_get, Option, None, Some, IsSome, IsSomeAnd}
 use Rattle.std.specs.List.{count_by, fold, list_all}
 use Rattle.std.specs.Option.{option_and_then}
@@ -50,7 +51,8 @@ pub record IsListing {R : Type 0} (ops : List (Op R)) (order : List ℕ) : Type 
 -- of two different listed operations, one that precedes the other stands before it
 abbrev pub KeepsPrecedence : {R : Type 0} → List (Op R) → List ℕ → Type 0
 KeepsPrecedence {R} ops order =
-    (i j : ℕ) (a b : Op R) → listed_at ops order i ≡ Some a → listed_at ops order j ≡ Some b → i ≢ j → Precedes a b → i < j
+    (i j : ℕ) (a b : Op R) → listed_at ops order i ≡ Some a → listed_at ops order j ≡ Some b → i ≢ j →
+    Precedes a b → i < j
 
 -- the record that an operation of this kind and item leaves, where there was r
 abbrev pub left_by : {R : Type 0} → Option R → Kind → Option R → Option R
@@ -76,10 +78,12 @@ ReadsRight Same Refused item before = IsSomeAnd item (λ x. IsSomeAnd before (λ
 -- reading
 abbrev pub ReadsLatest : {R : Type 0} → (R → R → Type 0) → R → List (Op R) → List ℕ → Type 0
 ReadsLatest {R} Same opening ops order =
-    (i : ℕ) (o : Op R) → listed_at ops order i ≡ Some o → ReadsRight Same o.kind o.item (latest opening ops (take i order))
+    (i : ℕ) (o : Op R) → listed_at ops order i ≡ Some o →
+    ReadsRight Same o.kind o.item (latest opening ops (take i order))
 
 -- an order is atomic
-pub record IsAtomicOrder {R : Type 0} (Same : R → R → Type 0) (opening : R) (ops : List (Op R)) (order : List ℕ) : Type 0 where
+pub record IsAtomicOrder {R : Type 0} (Same : R → R → Type 0) (opening : R) (ops : List (Op R))
+    (order : List ℕ) : Type 0 where
   pub listing : IsListing ops order
   pub precedence : KeepsPrecedence ops order
   pub reading : ReadsLatest Same opening ops order

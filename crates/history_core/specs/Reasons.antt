@@ -1,7 +1,8 @@
--- Why a history has no lawful order, where each record is written once and none is the opening: after P. Gibbons and E. Korach,
--- Testing Shared Memories, SIAM J. Computing 26, 1997, for reads that name their writes. Refused writes and the limit are this
--- project's own. Places are those of the operations.
-use Rattle.std.specs.Prelude.{◌≡◌, ℕ, ◌<◌, ◌≤◌, Bool, true, false, ◌||◌, List, take, slice_get, Some, IsSome, is_some, IsSomeAnd}
+-- Why a history has no lawful order, where each record is written once and none is the opening: after P. Gibbons and E.
+-- Korach, Testing Shared Memories, SIAM J. Computing 26, 1997, for reads that name their writes. Refused writes and the
+-- limit are this project's own. Places are those of the operations.
+use Rattle.std.specs.Prelude.{◌≡◌, ℕ, ◌<◌, ◌≤◌, Bool, true, false, ◌||◌, List, take, slice_get}
+use Rattle.std.specs.Prelude.{Some, IsSome, is_some, IsSomeAnd}
 use Rattle.history_core.specs.declared.history.Op.{Op}
 use Rattle.history_core.specs.declared.history.Kind.TheVariants.{Refused}
 use Rattle.history_core.specs.Orders.{IsAtomicOrder, is_write, Precedes, writes_in}
@@ -20,7 +21,8 @@ OfOneRecord Same a b = IsSomeAnd a.item (λ x. IsSomeAnd b.item (λ y. Same x y)
 abbrev pub IsOfOpening : {R : Type 0} → (R → R → Type 0) → R → Op R → Type 0
 IsOfOpening Same opening o = IsSomeAnd o.item (λ x. Same x opening)
 
--- a finished operation whose record is neither the opening nor written: a read or refused write, or a write without a record
+-- a finished operation whose record is neither the opening nor written: a read or refused
+-- write, or a write without a record
 pub record IsUnwritten {R : Type 0} (Same : R → R → Type 0) (opening : R) (ops : List (Op R)) (read : ℕ) : Type 0 where
   pub op : Op R
   pub at : slice_get ops read ≡ Some op
@@ -40,7 +42,8 @@ pub record IsEarly {R : Type 0} (Same : R → R → Type 0) (ops : List (Op R)) 
   pub precedes : Precedes op source
 
 -- a finished read or refused write of the opening, which an operation of another record precedes
-pub record IsStale {R : Type 0} (Same : R → R → Type 0) (opening : R) (ops : List (Op R)) (before read : ℕ) : Type 0 where
+pub record IsStale {R : Type 0} (Same : R → R → Type 0) (opening : R) (ops : List (Op R))
+    (before read : ℕ) : Type 0 where
   pub other : Op R
   pub op : Op R
   pub other_at : slice_get ops before ≡ Some other
@@ -81,9 +84,10 @@ pub record IsRefusedUpTo {R : Type 0} (limit : ℕ) (ops : List (Op R)) (order :
   pub refused : op.kind ≡ Refused
   pub few : writes_in (λ _. true) ops (take early order) < limit
 
--- a finished refused write: in every order that keeps listing, precedence and reading, it or a refused write before it has fewer
--- writes before it than the limit
-pub record IsLimited {R : Type 0} (Same : R → R → Type 0) (opening : R) (limit : ℕ) (ops : List (Op R)) (place : ℕ) : Type 0 where
+-- a finished refused write: in every order that keeps listing, precedence and reading, it or a refused write before it
+-- has fewer writes before it than the limit
+pub record IsLimited {R : Type 0} (Same : R → R → Type 0) (opening : R) (limit : ℕ) (ops : List (Op R))
+    (place : ℕ) : Type 0 where
   pub op : Op R
   pub at : slice_get ops place ≡ Some op
   pub finished : IsSome op.ends

@@ -1,13 +1,15 @@
 -- What a schedule says of the history that plays it: which operations it has, with their intervals. A schedule names an
 -- actor for each step, and for each actor what its operations are to do. Positions of steps are counted from 0 through
 -- the whole schedule. Schedules, terms and shape are this project's own.
-use Rattle.std.specs.Prelude.{◌≡◌, ℕ, ◌+◌, ◌-◌, ◌*◌, ◌/◌, ◌<◌, ◌≤◌, List, [], ◌∷◌, ◌++◌, length, take, slice_get, nat_eq, if◌then◌else◌}
+use Rattle.std.specs.Prelude.{◌≡◌, ℕ, ◌+◌, ◌-◌, ◌*◌, ◌/◌, ◌<◌, ◌≤◌, List, [], ◌∷◌, ◌++◌, length, take}
+use Rattle.std.specs.Prelude.{slice_get, nat_eq, if◌then◌else◌}
 use Rattle.std.specs.Prelude.{Option, None, Some, ◌⊎◌}
 use Rattle.std.specs.List.{count_by}
 use Rattle.std.specs.Option.{option_and_then}
 use Rattle.history_core.specs.declared.history.Op.{Op}
 use Rattle.history_core.specs.declared.history.Term.{Term}
-use Rattle.history_core.specs.declared.history.Kind.TheVariants.{Write as WriteKind, Read as ReadKind, Refused as RefusedKind}
+use Rattle.history_core.specs.declared.history.Kind.TheVariants.{Write as WriteKind, Read as ReadKind}
+use Rattle.history_core.specs.declared.history.Kind.TheVariants.{Refused as RefusedKind}
 use Rattle.history_core.specs.declared.wish.Wish.{Wish}
 use Rattle.history_core.specs.declared.wish.Wish.TheVariants.{Write, Read}
 
@@ -73,10 +75,11 @@ module _ {R : Type 0} where
     pub each : (p : ℕ) (op : Op R) → slice_get ops p ≡ Some op → (k : ℕ) × IsOperation at span k op
     pub all : (who k begin : ℕ) → access_at at span who k 0 ≡ Some begin →
         (p : ℕ) × (op : Op R) × (slice_get ops p ≡ Some op) × (op.who ≡ who) × (op.starts ≡ begin)
-    pub rising : (p q : ℕ) (a b : Op R) → slice_get ops p ≡ Some a → slice_get ops q ≡ Some b → p < q → a.starts < b.starts
+    pub rising : (p q : ℕ) (a b : Op R) → slice_get ops p ≡ Some a → slice_get ops q ≡ Some b → p < q →
+        a.starts < b.starts
 
-  -- the shape of a history whose first term begins at the position `at` and whose first operation has the place `place`:
-  -- the steps of each term are counted apart, and positions and places go on
+  -- the shape of a history whose first term begins at the position `at` and whose first operation has the place
+  -- `place`: the steps of each term are counted apart, and positions and places go on
   abbrev pub HasShapeFrom : ℕ → ℕ → List (Span R) → List Term → List (Op R) → Type 0
   HasShapeFrom at place [] terms ops = (terms ≡ []) × (ops ≡ [])
   HasShapeFrom at place (span ∷ spans) terms ops =
@@ -96,7 +99,8 @@ module _ {R : Type 0} where
   -- a term's step number `step` is of an actor that has no operation left
   abbrev pub Overruns : Span R → ℕ → Type 0
   Overruns span step =
-      (who : ℕ) × (slice_get span.steps step ≡ Some who) × (planned span who (steps_before span step who / span.accesses) ≡ None)
+      (who : ℕ) × (slice_get span.steps step ≡ Some who)
+      × (planned span who (steps_before span step who / span.accesses) ≡ None)
 
   -- the step at this position of the schedule is of an actor that has no operation left in that term
   abbrev pub OverrunsAt : List (Span R) → ℕ → Type 0

@@ -1,5 +1,5 @@
--- What a search for a lawful order answers. Which histories it takes, and the reasons, are this project's own; the verdict is
--- that of the check.
+-- What a search for a lawful order answers. Which histories it takes, and the reasons, are this project's own; the
+-- verdict is that of the check.
 use Rattle.std.specs.Prelude.{◌≡◌, ℕ, ◌<◌, ◌≤◌, true, List, [], ◌∷◌, slice_get, Some, IfSome, IsSomeAnd}
 use Rattle.history_core.specs.declared.history.Op.{Op}
 use Rattle.history_core.specs.declared.history.Term.{Term}
@@ -8,7 +8,8 @@ use Rattle.history_core.specs.Orders.{is_write, IsVerdict}
 use Rattle.history_core.specs.declared.reason.Search.{Search}
 use Rattle.history_core.specs.declared.reason.Search.TheVariants.{Order, Unlawful}
 use Rattle.history_core.specs.declared.reason.SearchError.{SearchError}
-use Rattle.history_core.specs.declared.reason.SearchError.TheVariants.{NoMemory, Terms, Backwards, WritesOpening, WritesTwice}
+use Rattle.history_core.specs.declared.reason.SearchError.TheVariants.{NoMemory, Terms, Backwards}
+use Rattle.history_core.specs.declared.reason.SearchError.TheVariants.{WritesOpening, WritesTwice}
 use Rattle.history_core.specs.declared.reason.Reason.{Reason}
 use Rattle.history_core.specs.Reasons.{IsOfOpening, IsReason, OfOneRecord, rule_of}
 
@@ -47,8 +48,8 @@ module _ {R : Type 0} where
     pub once : (p q : ℕ) → q < n → ¬ IsWrittenTwice Same ops p q
 
   -- no order is lawful, and this is a reason, of the first rule that any reason has
-  pub record IsUnlawful (Same : R → R → Type 0) (opening : R) (limit : ℕ) (terms : List Term) (ops : List (Op R)) (reason : Reason) :
-      Type 0 where
+  pub record IsUnlawful (Same : R → R → Type 0) (opening : R) (limit : ℕ) (terms : List Term) (ops : List (Op R))
+      (reason : Reason) : Type 0 where
     pub none : (order : List ℕ) → ¬ IsVerdict Same opening terms ops order Lawful
     pub is : IsReason Same opening limit ops reason
     pub first : (other : Reason) → IsReason Same opening limit ops other → rule_of reason ≤ rule_of other
@@ -59,7 +60,8 @@ module _ {R : Type 0} where
   IsSearch Same opening limit terms ops (Unlawful reason) = IsUnlawful Same opening limit terms ops reason
 
   -- a history that can be searched, and the answer
-  pub record IsAnswered (Same : R → R → Type 0) (opening : R) (terms : List Term) (ops : List (Op R)) (search : Search) : Type 0 where
+  pub record IsAnswered (Same : R → R → Type 0) (opening : R) (terms : List Term) (ops : List (Op R))
+      (search : Search) : Type 0 where
     pub limit : ℕ
     pub one_term : IsOneTerm limit terms
     pub forwards : (n : ℕ) → AreForwards ops n
@@ -81,5 +83,7 @@ module _ {R : Type 0} where
   IsGroupFault Same opening ops NoMemory = Unit {0}
   IsGroupFault Same opening ops Terms = ⊥
   IsGroupFault Same opening ops (Backwards place) = ⊥
-  IsGroupFault Same opening ops (WritesOpening place) = IsOpeningWrite Same opening ops place × WritesOnce Same opening ops place
-  IsGroupFault Same opening ops (WritesTwice first second) = IsWrittenTwice Same ops first second × WritesOnce Same opening ops second
+  IsGroupFault Same opening ops (WritesOpening place) = IsOpeningWrite Same opening ops place
+      × WritesOnce Same opening ops place
+  IsGroupFault Same opening ops (WritesTwice first second) = IsWrittenTwice Same ops first second
+      × WritesOnce Same opening ops second

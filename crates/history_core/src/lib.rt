@@ -1,5 +1,5 @@
-//! Histories of operations on a shared register, after L. Lamport, On Interprocess Communication, 1986, which orders of one are atomic,
-//! and the reasons why none is; and the law of a register that one side writes and one reads.
+//! Histories of operations on a shared register, after L. Lamport, On Interprocess Communication, 1986, which orders of
+//! one are atomic, and the reasons why none is; and the law of a register that one side writes and one reads.
 #![tactic(auto)]
 
 mod band;

@@ -1,5 +1,5 @@
-//! What a search for a lawful order of a history answers: an order, or a reason why none is lawful, after P. Gibbons and E. Korach,
-//! Testing Shared Memories, 1997.
+//! What a search for a lawful order of a history answers: an order, or a reason why none is lawful, after P. Gibbons
+//! and E. Korach, Testing Shared Memories, 1997.
 use crate::Items;
 
 /// Why no order is lawful. Places are those of the operations, counted from 0.
@@ -26,7 +26,8 @@ pub enum Reason {
         c: usize,
         d: usize,
     },
-    /// In each order that keeps the other rules this refused write, or one before it, has fewer writes before it than the limit.
+    /// In each order that keeps the other rules this refused write, or one before it, has fewer
+    /// writes before it than the limit.
     Limit {
         refused: usize,
     },
@@ -41,8 +42,8 @@ pub enum Search {
     Unlawful(Reason),
 }
 
-/// Why a history isn't searched. Of the conditions the first that fails is told, at the least place; of the last two the least
-/// place decides.
+/// Why a history isn't searched. Of the conditions the first that fails is told, at the least place; of the last
+/// two the least place decides.
 #[derive(Clone, Copy, Debug, PartialEq, Eq)]
 pub enum SearchError {
     NoMemory,

@@ -28,7 +28,8 @@ impl Thinned {
 /// What a search answers about a whole log. Places are those in the log, counted from 0.
 #[derive(Drop)]
 pub enum LogAnswer {
-    /// A lawful order exists. Its writes stand in this order, behind each the finished operations that have its record, by beginning.
+    /// A lawful order exists. Its writes stand in this order, behind each the finished operations that
+    /// have its record, by beginning.
     Lawful { writes: Items<usize> },
     /// No order is lawful.
     Unlawful { reason: Reason },

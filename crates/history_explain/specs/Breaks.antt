@@ -1,6 +1,7 @@
--- What breaks the first broken rule of a lawful order: the first entry or operation that does, where the order before it keeps
--- the rule. The rules stand in Orders; that the first one is told, and how, is this project's own.
-use Rattle.std.specs.Prelude.{◌≡◌, ℕ, ◌+◌, ◌<◌, ◌≤◌, true, false, List, length, take, drop, slice_get, Option, None, Some, IsSomeAnd}
+-- What breaks the first broken rule of a lawful order: the first entry or operation that does, where the order before
+-- it keeps the rule. The rules stand in Orders; that the first one is told, and how, is this project's own.
+use Rattle.std.specs.Prelude.{◌≡◌, ℕ, ◌+◌, ◌<◌, ◌≤◌, true, false, List, length, take, drop, slice_get}
+use Rattle.std.specs.Prelude.{Option, None, Some, IsSomeAnd}
 use Rattle.history_core.specs.declared.history.Op.{Op}
 use Rattle.history_core.specs.declared.history.Term.{Term}
 use Rattle.history_core.specs.declared.history.Kind.TheVariants.{Refused}
@@ -8,7 +9,8 @@ use Rattle.history_core.specs.declared.history.Verdict.{Verdict}
 use Rattle.history_core.specs.declared.history.Verdict.TheVariants as verdict
 use Rattle.history_explain.specs.declared.breaks.Break.{Break}
 use Rattle.history_explain.specs.declared.breaks.Break.TheVariants.{NoPlace, Times, Precedence, NoItem, Reading, Limit}
-use Rattle.history_core.specs.Orders.{EachStands, in_term, is_write_at, KeepsPrecedence, latest, listed_at, ListsPlaces, MayStand, Precedes}
+use Rattle.history_core.specs.Orders.{EachStands, in_term, is_write_at, KeepsPrecedence, latest, listed_at}
+use Rattle.history_core.specs.Orders.{ListsPlaces, MayStand, Precedes}
 use Rattle.history_core.specs.Orders.{ReadsLatest, ReadsRight, RefusesLawfully, times_of, writes_in}
 
 -- the rule that this breaks
@@ -27,7 +29,8 @@ module _ {R : Type 0} where
     pub outside : IsSomeAnd (slice_get order entry) (λ p. length ops ≤ p)
     pub before : ListsPlaces ops (take entry order)
 
-  -- the operation at this place stands this often, which it may not, and each at a lesser place stands as often as it may
+  -- the operation at this place stands this often, which it may not, and each at a lesser
+  -- place stands as often as it may
   pub record IsMiscounted (ops : List (Op R)) (order : List ℕ) (place times : ℕ) : Type 0 where
     pub places : ListsPlaces ops order
     pub counted : times ≡ times_of place order
@@ -47,8 +50,8 @@ module _ {R : Type 0} where
   IsListingBreak ops order (Times place times) = IsMiscounted ops order place times
   IsListingBreak ops order other = ⊥
 
-  -- the operation of this entry precedes that of the earlier one, which of the entries before it began last; and the order
-  -- before it keeps precedence
+  -- the operation of this entry precedes that of the earlier one, which of the entries before it began last; and the
+  -- order before it keeps precedence
   pub record IsOvertaken (ops : List (Op R)) (order : List ℕ) (earlier entry : ℕ) : Type 0 where
     pub precedes : IsSomeAnd (listed_at ops order earlier)
         (λ a. IsLastBegun ops order entry earlier a × IsSomeAnd (listed_at ops order entry) (λ b. Precedes b a))
@@ -70,7 +73,8 @@ module _ {R : Type 0} where
     pub before : ReadsLatest Same opening ops (take entry order)
 
   -- the operation of this entry has no item, and the entries before it have the latest
-  pub record IsItemless (Same : R → R → Type 0) (opening : R) (ops : List (Op R)) (order : List ℕ) (entry : ℕ) : Type 0 where
+  pub record IsItemless (Same : R → R → Type 0) (opening : R) (ops : List (Op R)) (order : List ℕ)
+      (entry : ℕ) : Type 0 where
     pub none : IsSomeAnd (listed_at ops order entry) (λ o. o.item ≡ None)
     pub before : ReadsLatest Same opening ops (take entry order)
 

@@ -1,5 +1,6 @@
--- Points of an order: the picture of an atomic history in which each operation takes effect at one moment of its interval, after
--- M. Herlihy and J. Wing, Linearizability, ACM TOPLAS 12, 1990, where it is each operation's linearization point.
+-- Points of an order: the picture of an atomic history in which each operation takes effect at one moment of
+-- its interval, after M. Herlihy and J. Wing, Linearizability, ACM TOPLAS 12, 1990, where it is each
+-- operation's linearization point.
 use Rattle.std.specs.Prelude.{◌≡◌, ℕ, ◌≤◌, List, length, slice_get, Option, None, Some, IfSome}
 use Rattle.history_core.specs.declared.history.Op.{Op}
 use Rattle.history_core.specs.Orders.{listed_at}
@@ -14,7 +15,8 @@ module _ {R : Type 0} where
   pub record ArePoints (ops : List (Op R)) (order points : List ℕ) : Type 0 where
     pub each : length points ≡ length order
     pub rise : (i j a b : ℕ) → i ≤ j → slice_get points i ≡ Some a → slice_get points j ≡ Some b → a ≤ b
-    pub within : (i a : ℕ) (o : Op R) → slice_get points i ≡ Some a → listed_at ops order i ≡ Some o → IsWithin o.starts o.ends a
+    pub within : (i a : ℕ) (o : Op R) → slice_get points i ≡ Some a → listed_at ops order i ≡ Some o →
+        IsWithin o.starts o.ends a
 
   abbrev pub HasPoints : List (Op R) → List ℕ → Type 0
   HasPoints ops order = (points : List ℕ) × ArePoints ops order points

@@ -27,18 +27,21 @@ pub enum Break {
     Precedence { earlier: usize, entry: usize },
     /// The operation of this entry has no item.
     NoItem { entry: usize },
-    /// The read or refused write of this entry has another record than the write of the entry `write`, the last before it; or
-    /// than the opening, where no write stands before it.
+    /// The read or refused write of this entry has another record than the write of the entry `write`, the last before
+    /// it; or than the opening, where no write stands before it.
     Reading { entry: usize, write: Option<usize> },
     /// The write of this entry was refused with so many writes of its term before it, which are fewer than the limit.
     Limit { entry: usize, writes: u64 },
 }
 
-/// The first rule that the order breaks, with the first that breaks it; none exactly where `check_order` answers `Lawful`. It
-/// takes no memory, and no more passes over the order than `check_order`, besides those of `check_order` itself.
+/// The first rule that the order breaks, with the first that breaks it; none exactly where `check_order`
+/// answers `Lawful`. It takes no memory, and no more passes over the order than `check_order`, besides
+/// those of `check_order` itself.
 pub fn first_break<R: Copy + Eq>(h: &History<R>, order: &[usize]) -> Option<Break>
-    ensures rule { IsVerdict (λ x y. IsTrue (R.eq x y)) h.now.opening h.now.terms h.now.ops order.now (verdict_of result) }
-    ensures first { IfSome result (IsFirstBreak (λ x y. IsTrue (R.eq x y)) h.now.opening h.now.terms h.now.ops order.now) }
+    ensures rule { IsVerdict (λ x y. IsTrue (R.eq x y)) h.now.opening h.now.terms h.now.ops order.now
+        (verdict_of result) }
+    ensures first { IfSome result
+        (IsFirstBreak (λ x y. IsTrue (R.eq x y)) h.now.opening h.now.terms h.now.ops order.now) }
 {
     let verdict = check_order(h, order);
     breaking(

@@ -1,5 +1,5 @@
-//! What shows that an order of a history is lawful or isn't: the first that breaks a rule, and points, moments in the operations'
-//! intervals that never fall along the order.
+//! What shows that an order of a history is lawful or isn't: the first that breaks a rule, and points, moments in the
+//! operations' intervals that never fall along the order.
 #![tactic(auto)]
 
 mod breaks;

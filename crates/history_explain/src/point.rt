@@ -7,14 +7,15 @@ ghost use Rattle.history_explain.specs.Points.{AreEarliest, HasPoints};
 use history_core::{History, Items, Op};
 use std::alloc::{AllocError, Global};
 
-/// The earliest points of the order, one for each entry; none where it has none. An entry that is no place has the point of the
-/// entry before it.
+/// The earliest points of the order, one for each entry; none where it has none. An entry that is no place has the
+/// point of the entry before it.
 pub fn points<R>(
     alloc: Global,
     h: &History<R>,
     order: &[usize],
 ) -> Result<Option<Items<u64>>, AllocError>
-    ensures { IfOk result (λ found. MatchOption found (¬ HasPoints h.now.ops order.now) (AreEarliest h.now.ops order.now)) }
+    ensures { IfOk result
+        (λ found. MatchOption found (¬ HasPoints h.now.ops order.now) (AreEarliest h.now.ops order.now)) }
 {
     let ops = h.ops.as_slice();
     let points = earliest(alloc, ops, order)?;

@@ -8,8 +8,9 @@ use crate::group_search::search_groups;
 use history_core::{History, Op, Search, SearchError, Term};
 use std::alloc::Global;
 
-/// A lawful order of the history, or a reason why there is none: of the first rule of `Reason` that any reason has. The history
-/// has one term, in which each record is written at most once and none is the opening. It takes n log n steps for n operations.
+/// A lawful order of the history, or a reason why there is none: of the first rule of `Reason` that any reason
+/// has. The history has one term, in which each record is written at most once and none is the opening. It takes n
+/// log n steps for n operations.
 pub fn find_order<R: Copy + Ord>(alloc: Global, h: &History<R>) -> Result<Search, SearchError>
     ensures { MatchResult result (IsAnswered (λ x y. IsTrue (R.eq x y)) h.now.opening h.now.terms h.now.ops)
         (IsFault (λ x y. IsTrue (R.eq x y)) h.now.opening h.now.terms h.now.ops) }

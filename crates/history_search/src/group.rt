@@ -1,9 +1,12 @@
-//! Groups: the number of an operation's group is 0 for the opening's, and for that of a write one more than the write's place.
+//! Groups: the number of an operation's group is 0 for the opening's, and for that of a write one
+//! more than the write's place.
 
-ghost use Rattle.std.specs.Prelude.{◌≡◌, ◌+◌, ◌<◌, ◌^◌, ◌↔◌, ℕ, false, length, IfErr, IfNone, IfOk, IfSome, IsSome, IsTrue, OnOk, None};
+ghost use Rattle.std.specs.Prelude.{◌≡◌, ◌+◌, ◌<◌, ◌^◌, ◌↔◌, ℕ, false, length, IfErr, IfNone, IfOk};
+ghost use Rattle.std.specs.Prelude.{IfSome, IsSome, IsTrue, OnOk, None};
 ghost use Rattle.std.specs.Prelude.{Some};
 ghost use Rattle.std.specs.BTreeMap.{get, Updates};
-ghost use Rattle.history_search.specs.inner.Groups.{AreGroups, group_in, HaveGroups, IsUngrouped, IsWriteFault, KnowsWrites, written_by};
+ghost use Rattle.history_search.specs.inner.Groups.{AreGroups, group_in, HaveGroups, IsUngrouped, IsWriteFault};
+ghost use Rattle.history_search.specs.inner.Groups.{KnowsWrites, written_by};
 ghost use Rattle.history_core.specs.Reasons.{counts};
 ghost use Rattle.history_core.specs.Searches.{IsGroupFault, WritesOnce};
 

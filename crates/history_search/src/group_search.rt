@@ -1,9 +1,11 @@
 //! The search over groups: ranks, then crossings, and where the limit wants it the late groups last.
 
-ghost use Rattle.std.specs.Prelude.{◌≡◌, ◌<◌, ◌≤◌, ◌↔◌, ℕ, length, IfNone, IfOk, IfSome, IsSomeAnd, IsTrue, Some, slice_get, if◌then◌else◌};
+ghost use Rattle.std.specs.Prelude.{◌≡◌, ◌<◌, ◌≤◌, ◌↔◌, ℕ, length, IfNone, IfOk, IfSome, IsSomeAnd, IsTrue};
+ghost use Rattle.std.specs.Prelude.{Some, slice_get, if◌then◌else◌};
 ghost use Rattle.history_core.specs.declared.history.Kind.TheVariants.{Refused};
 ghost use Rattle.history_core.specs.Orders.{is_write_at};
-ghost use Rattle.history_search.specs.inner.Found.{AreStraight, HasEnough, HasTooFew, IsFound, IsGroupSearch, refused_in};
+ghost use Rattle.history_search.specs.inner.Found.{AreStraight, HasEnough, HasTooFew, IsFound};
+ghost use Rattle.history_search.specs.inner.Found.{IsGroupSearch, refused_in};
 
 use crate::cut::late_end;
 use crate::group::first_ungrouped;

@@ -1,5 +1,5 @@
-//! The search for a lawful order of a history in which each record is written once, after P. Gibbons and E. Korach, Testing
-//! Shared Memories, 1997, with refused writes and a limit.
+//! The search for a lawful order of a history in which each record is written once, after P. Gibbons and E. Korach,
+//! Testing Shared Memories, 1997, with refused writes and a limit.
 #![tactic(auto)]
 
 mod cut;

@@ -4,15 +4,16 @@ ghost use Rattle.std.specs.Prelude.{◌≡◌, ◌<◌, ℕ, false, length, map,
 ghost use Rattle.history_core.specs.declared.history.Op.{Op};
 ghost use Rattle.history_search.specs.inner.Groups.{Member};
 ghost use Rattle.history_search.specs.inner.Found.{AreSorted};
-ghost use Rattle.history_search.specs.inner.Ranks.{asks_in, begin_in, end_in, first_in, is_above, is_late, IsRank, last_in, late_in};
+ghost use Rattle.history_search.specs.inner.Ranks.{asks_in, begin_in, end_in, first_in, is_above, is_late};
+ghost use Rattle.history_search.specs.inner.Ranks.{IsRank, last_in, late_in};
 ghost use Rattle.history_search.specs.inner.Ranks.{stands_in};
 
 use crate::span::Span;
 use history_core::{Kind, Op};
 use std::alloc::{AllocError, Global};
 
-/// What the place of an operation in the order goes by. Groups stand by `late`, `first`, `last` and their number; within a group
-/// the write comes first, and then the others by beginning.
+/// What the place of an operation in the order goes by. Groups stand by `late`, `first`, `last` and their number;
+/// within a group the write comes first, and then the others by beginning.
 #[derive(Clone, Copy, PartialEq, Eq, PartialOrd, Ord)]
 pub struct Rank {
     /// Whether the group has to stand behind a refused write.

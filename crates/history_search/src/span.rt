@@ -1,9 +1,11 @@
 //! The span of a group: its earliest end and its latest beginning.
 
 ghost use Rattle.std.specs.Prelude.{◌≡◌, ◌+◌, ◌≤◌, ℕ, length, IfNone, IfOk, IfSome, None, Some, replicate, slice_get};
-ghost use Rattle.history_search.specs.inner.Groups.{AreSpans, earlier_moment, empty_span, ends_before, joined_span, later_moment};
+ghost use Rattle.history_search.specs.inner.Groups.{AreSpans, earlier_moment, empty_span, ends_before};
+ghost use Rattle.history_search.specs.inner.Groups.{joined_span, later_moment};
 ghost use Rattle.history_search.specs.inner.Groups.{refused_at};
-ghost use Rattle.history_search.specs.inner.Found.{EndsBefore, IsEarlyIn, IsStaleIn, NoneEarlyIn, NoneEndsBefore, NoneStaleIn};
+ghost use Rattle.history_search.specs.inner.Found.{EndsBefore, IsEarlyIn, IsStaleIn, NoneEarlyIn};
+ghost use Rattle.history_search.specs.inner.Found.{NoneEndsBefore, NoneStaleIn};
 
 use history_core::{Kind, Op};
 use std::alloc::{AllocError, Global};

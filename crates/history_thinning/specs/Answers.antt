@@ -13,17 +13,18 @@ use Rattle.history_core.specs.declared.thinned.LogAnswer.{LogAnswer}
 use Rattle.history_core.specs.declared.thinned.LogAnswer.TheVariants.{Lawful, Unlawful}
 use Rattle.history_thinning.specs.Thinnings.{Equal, one_term}
 
--- an order of the whole log is lawful; its writes stand as listed, each with as many listed before it as stand before it; and answers of
--- one record stand by beginning
+-- an order of the whole log is lawful; its writes stand as listed, each with as many listed before it as stand before
+-- it; and answers of one record stand by beginning
 pub record IsLawfulBy (limit : ℕ) (log : List (Op ℕ)) (writes order : List ℕ) : Type 0 where
   pub lawful : IsVerdict Equal 0 (one_term limit) log order LawfulOrder
   pub long : length writes ≡ writes_in (λ _. true) log order
   pub listed : (i p : ℕ) (o : Op ℕ) → StandsAt log order i p o → is_write o.kind ≡ true →
       slice_get writes (writes_in (λ _. true) log (take i order)) ≡ Some p
-  pub by_beginning : (i j p q : ℕ) (a b : Op ℕ) → StandsAt log order i p a → StandsAt log order j q b → i < j → is_write a.kind ≡ false →
-      OfOneRecord Equal a b → a.starts ≤ b.starts
+  pub by_beginning : (i j p q : ℕ) (a b : Op ℕ) → StandsAt log order i p a → StandsAt log order j q b → i < j →
+      is_write a.kind ≡ false → OfOneRecord Equal a b → a.starts ≤ b.starts
 
--- the answer: such an order exists; or none is lawful, and this is a reason of the first rule that any reason of the whole log has
+-- the answer: such an order exists; or none is lawful, and this is a reason of the first rule that
+-- any reason of the whole log has
 abbrev pub IsThinnedAnswer : ℕ → List (Op ℕ) → LogAnswer → Type 0
 IsThinnedAnswer limit log (Lawful writes) = (order : List ℕ) × IsLawfulBy limit log writes order
 IsThinnedAnswer limit log (Unlawful reason) = IsUnlawful Equal 0 limit (one_term limit) log reason

@@ -13,7 +13,9 @@ use std::alloc::{AllocError, Global};
 
 /// What a search of the whole log would answer, from the answer of one among the operations that are kept.
 pub fn answer_of(alloc: Global, thinned: &Thinned, search: Search) -> Result<LogAnswer, AllocError>
-    ensures { IfOk result (λ answer. IsAnswered Equal thinned.now.history.opening thinned.now.history.terms thinned.now.history.ops search →
+    ensures { IfOk result
+        (λ answer.
+        IsAnswered Equal thinned.now.history.opening thinned.now.history.terms thinned.now.history.ops search →
         (limit : ℕ) (log : List (Op ℕ)) → IsThinnedLog limit log thinned.now →
         IsThinnedAnswer limit log answer × IsOfKept thinned.now.places answer) }
 {

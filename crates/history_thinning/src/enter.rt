@@ -89,7 +89,8 @@ pub(crate) fn make_room(groups: &mut Vec<Group>, number: usize) -> Result<(), Al
 /// One more operation in its group.
 pub(crate) fn join(groups: &mut Vec<Group>, number: usize, placed: Placed)
     requires { number < length groups.old.items }
-    ensures { groups.new.items ≡ set groups.old.items number (joined_group (get_or groups.old.items number empty_group) placed) }
+    ensures { groups.new.items
+        ≡ set groups.old.items number (joined_group (get_or groups.old.items number empty_group) placed) }
 {
     groups[number] = joined(groups[number], placed);
 }

@@ -99,7 +99,8 @@ pub(crate) fn apart(alloc: Global, kept: &[Placed]) -> Result<Rows, AllocError>
 
 /// One more, where its place is new.
 fn push_new(rows: &mut Rows, placed: &Placed) -> Result<(), AllocError>
-    ensures { OnOk result (HasNew rows.old.ops.items rows.old.places.items placed.now rows.new.ops.items rows.new.places.items) }
+    ensures { OnOk result
+        (HasNew rows.old.ops.items rows.old.places.items placed.now rows.new.ops.items rows.new.places.items) }
 {
     if !is_new(rows.places.as_slice(), placed.place) {
         return Ok(());

@@ -1,5 +1,5 @@
-//! Thinning: of a long log at most four operations of each record are kept. What a search finds among them is true of the whole log.
-//! Records are numbers, which the caller gives; 0 is the opening.
+//! Thinning: of a long log at most four operations of each record are kept. What a search finds among them is true of
+//! the whole log. Records are numbers, which the caller gives; 0 is the opening.
 #![tactic(auto)]
 
 mod answer;

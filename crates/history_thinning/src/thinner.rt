@@ -13,7 +13,8 @@ use crate::group::{Group, Placed};
 use history_core::{History, Items, Op, SearchError, Term, Thinned};
 use std::alloc::{AllocError, Global};
 
-/// A log of which at most four operations of each record are kept. Its memory grows with the greatest number of a record.
+/// A log of which at most four operations of each record are kept. Its memory grows with the
+/// greatest number of a record.
 #[derive(Drop)]
 pub struct Thinner {
     /// What is kept of each record, by its number.
@@ -30,9 +31,9 @@ impl Thinner {
         }
     }
 
-    /// Enters the next operation of the log, whose place is the number of those entered before it. An unfinished read or refused write
-    /// isn't kept. An operation with which a search would refuse the log so far isn't entered. It takes a constant number of steps, but
-    /// for numbers that weren't met yet.
+    /// Enters the next operation of the log, whose place is the number of those entered before it. An unfinished read
+    /// or refused write isn't kept. An operation with which a search would refuse the log so far isn't entered. It
+    /// takes a constant number of steps, but for numbers that weren't met yet.
     pub fn enter(&mut self, op: Op<usize>, place: usize) -> Result<(), SearchError>
         requires { counts op ≡ true → IsSome op.item }
         ensures entered { OnOk result ((log : List (Op ℕ)) → length log ≡ place → IsThinning log self.old →

@@ -23,10 +23,11 @@ module _ {R : Type 0} where
       ((c.stamp ≡ first_stamp) × (c.item ≡ opening))
       ⊎ ((w : Choice R) × IsIn w choices × (w.kind ≡ Write) × (w.stamp ≡ c.stamp) × (w.item ≡ c.item))
 
-  -- tags rise one by one: a write has the tag 1, or some write has the tag one below. A refused write has a tag of at least
-  -- the limit
+  -- tags rise one by one: a write has the tag 1, or some write has the tag one below. A refused write
+  -- has a tag of at least the limit
   abbrev pub TagsRiseByOne : ℕ → List (Choice R) → Type 0
   TagsRiseByOne limit choices =
       (c : Choice R) → IsIn c choices →
       (c.kind ≡ Refused → limit ≤ c.stamp.tag)
-      × (c.kind ≡ Write → (c.stamp.tag ≡ 1) ⊎ ((w : Choice R) × IsIn w choices × (w.kind ≡ Write) × (w.stamp.tag + 1 ≡ c.stamp.tag)))
+      × (c.kind ≡ Write → (c.stamp.tag ≡ 1)
+      ⊎ ((w : Choice R) × IsIn w choices × (w.kind ≡ Write) × (w.stamp.tag + 1 ≡ c.stamp.tag)))

@@ -1,5 +1,6 @@
--- Choices that are gathered from cells: each operation saw the greatest of its process's own record and of the records whose numbers
--- the reads of its column have. It is a law that these follow the law of choices. This is this project's own.
+-- Choices that are gathered from cells: each operation saw the greatest of its process's own record and of
+-- the records whose numbers the reads of its column have. It is a law that these follow the law of
+-- choices. This is this project's own.
 use Rattle.std.specs.Prelude.{◌≡◌, ℕ, zero, suc, ◌+◌, ◌<◌, List, [], ◌∷◌, ◌++◌, length, slice_get, Option, Some, nat_eq}
 use Rattle.std.specs.Prelude.{if◌then◌else◌}
 use Rattle.std.specs.Option.{option_map}
@@ -22,15 +23,16 @@ module _ {R : Type 0} where
   numbered opening mine zero = Some (first_record opening)
   numbered opening mine (suc k) = option_map record_of (slice_get mine k)
 
-  -- an answer of the cell of a process with these choices so far: the record with its number, which is at least that of each
-  -- choice whose operation is earlier than the reader's
-  pub record IsCellAnswer (Before : Choice R → Type 0) (opening : R) (mine : List (Choice R)) (answer : Stamped R) : Type 0 where
+  -- an answer of the cell of a process with these choices so far: the record with its number, which is at least that of
+  -- each choice whose operation is earlier than the reader's
+  pub record IsCellAnswer (Before : Choice R → Type 0) (opening : R) (mine : List (Choice R))
+      (answer : Stamped R) : Type 0 where
     pub number : ℕ
     pub source : numbered opening mine number ≡ Some answer
     pub late : (k : ℕ) (d : Choice R) → slice_get mine k ≡ Some d → Before d → k < number
 
-  -- a choice of one of n processes after those of the past, the newest first: it saw the greatest of the newest record of its own
-  -- and of one answer of each other process
+  -- a choice of one of n processes after those of the past, the newest first: it saw the greatest of the newest record
+  -- of its own and of one answer of each other process
   pub record Gathers (Earlier : Choice R → Choice R → Type 0) (opening : R) (limit n : ℕ) (past : List (Choice R))
       (c : Choice R) : Type 0 where
     pub own : Stamped R
@@ -46,4 +48,5 @@ module _ {R : Type 0} where
 
   abbrev pub AllGather : (Choice R → Choice R → Type 0) → R → ℕ → ℕ → List (Choice R) → Type 0
   AllGather Earlier opening limit n [] = Unit {0}
-  AllGather Earlier opening limit n (c ∷ past) = Gathers Earlier opening limit n past c × AllGather Earlier opening limit n past
+  AllGather Earlier opening limit n (c ∷ past) = Gathers Earlier opening limit n past c
+      × AllGather Earlier opening limit n past

@@ -1,6 +1,6 @@
--- The progress of a process of a matrix, whatever its cells are: an operation of process i reads cell (j, i) for each other j,
--- rising, chooses at the last one, and then writes cell (i, j) for each other j, rising. The idea of a matrix with tags is credited to
--- P. Vitányi and B. Awerbuch, FOCS 1986; the rules are this project's own.
+-- The progress of a process of a matrix, whatever its cells are: an operation of process i reads cell (j, i) for each
+-- other j, rising, chooses at the last one, and then writes cell (i, j) for each other j, rising. The idea of a matrix
+-- with tags is credited to P. Vitányi and B. Awerbuch, FOCS 1986; the rules are this project's own.
 use Rattle.std.specs.Prelude.{ℕ, ◌+◌, ◌*◌, Option, None, Some, nat_lt, nat_eq, if◌then◌else◌}
 pub use Rattle.history_core.specs.Others.{other}
 use Rattle.history_core.specs.declared.wish.Wish.{Wish}
@@ -15,8 +15,8 @@ abbrev pub cell_place : ℕ → ℕ → ℕ → ℕ
 cell_place n i j = i * n + j
 
 module _ {R : Type 0} where
-  -- what an operation that saw `seen` chooses: a read chooses what it saw, a write its record with the next tag where the
-  -- tag that it saw is below the limit, and any other write what it saw
+  -- what an operation that saw `seen` chooses: a read chooses what it saw, a write its record with the next tag where
+  -- the tag that it saw is below the limit, and any other write what it saw
   abbrev pub choice : ℕ → ℕ → Wish R → Progress R → Progress R
   choice limit i Read line = record line { own = line.seen; outcome = Seen line.seen }
   choice limit i (Write item) line = if nat_lt line.seen.stamp.tag limit

@@ -1,6 +1,7 @@
-//! A register of several writers and readers from a matrix of cells that have one writer and one reader each, whatever the cells are:
-//! its stamps and what operations choose by them, its schedules and reports, how far its processes are, and the order of its operations.
-//! The idea of such a matrix with tags is credited to P. Vitányi and B. Awerbuch, FOCS 1986; the rules are this project's own.
+//! A register of several writers and readers from a matrix of cells that have one writer and one reader each, whatever
+//! the cells are: its stamps and what operations choose by them, its schedules and reports, how far its processes are,
+//! and the order of its operations. The idea of such a matrix with tags is credited to P. Vitányi and B. Awerbuch, FOCS
+//! 1986; the rules are this project's own.
 #![tactic(auto)]
 
 pub mod laws;

@@ -50,7 +50,8 @@ fn overrun_of<R>(cells: Cells, term: &MatrixTerm<R>) -> Option<u64>
     requires { IsTerm term.now }
     ensures none { IfNone result ((step : ℕ) → ¬ Overruns (span_by cells term.now) step) }
     ensures first { IfSome result
-        (λ step. Overruns (span_by cells term.now) step × ((q : ℕ) → q < step → ¬ Overruns (span_by cells term.now) q)) }
+        (λ step. Overruns (span_by cells term.now) step
+        × ((q : ℕ) → q < step → ¬ Overruns (span_by cells term.now) q)) }
     ensures inside { IfSome result (λ step. step < length term.now.steps) }
 {
     let plans = term.plans.as_slice();

@@ -20,8 +20,8 @@ pub enum Outcome<R> {
     Ended(Stamped<R>),
 }
 
-/// How far a process is: the accesses that its operation has made, what the operation is to do, the greatest record that
-/// it saw, the process's own record, and what the operation answers once it has chosen.
+/// How far a process is: the accesses that its operation has made, what the operation is to do, the greatest record
+/// that it saw, the process's own record, and what the operation answers once it has chosen.
 #[derive(Clone, Copy)]
 pub struct Progress<R> {
     pub done: usize,
@@ -49,7 +49,8 @@ pub fn greatest_of<R: Copy>(lines: &[Progress<R>], opening: R) -> R
 pub fn done_at<R: Copy>(lines: &[Progress<R>], process: usize) -> usize
     requires process { process < length lines.now }
     requires small { length lines.now ≤ 16 }
-    requires inside { (i : ℕ) (line : Progress R) → slice_get lines.now i ≡ Some line → line.done + 3 ≤ 2 * length lines.now }
+    requires inside { (i : ℕ) (line : Progress R) → slice_get lines.now i ≡ Some line →
+        line.done + 3 ≤ 2 * length lines.now }
     ensures at { (line : Progress R) × (slice_get lines.now process ≡ Some line) × (result ≡ line.done) }
     ensures inside { result + 3 ≤ 2 * length lines.now }
     ensures small { length lines.now ≤ 16 }

@@ -81,7 +81,8 @@ fn add_term<R: Copy>(
 ) -> Result<(), AllocError>
     requires told { length told.old.stamps.items ≡ length told.old.ops.items }
     requires play { length play.stamps ≡ length play.ops }
-    ensures terms { OnOk result (told.new.terms.items ≡ told.old.terms.items ++ one_term (length told.old.ops.items) limit) }
+    ensures terms { OnOk result
+        (told.new.terms.items ≡ told.old.terms.items ++ one_term (length told.old.ops.items) limit) }
     ensures ops { OnOk result (told.new.ops.items ≡ told.old.ops.items ++ play.ops) }
     ensures stamps { OnOk result (told.new.stamps.items ≡ told.old.stamps.items ++ play.stamps) }
     ensures order { OnOk result ((mine : List ℕ) × IsInOrder play.ops play.stamps mine

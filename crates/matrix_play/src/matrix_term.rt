@@ -1,6 +1,7 @@
 //! The player: a schedule over a matrix, step by step.
 
-ghost use Rattle.std.specs.Prelude.{◌≡◌, ◌+◌, ◌-◌, ◌*◌, ◌<◌, ◌≤◌, ◌^◌, ◌++◌, ℕ, List, length, replicate, vec_len, IfNone, IfOk, IfSome};
+ghost use Rattle.std.specs.Prelude.{◌≡◌, ◌+◌, ◌-◌, ◌*◌, ◌<◌, ◌≤◌, ◌^◌, ◌++◌, ℕ, List, length, replicate};
+ghost use Rattle.std.specs.Prelude.{vec_len, IfNone, IfOk, IfSome};
 ghost use Rattle.std.specs.Prelude.{IsSome, OnOk, Some, slice_get, slice_set};
 ghost use Rattle.std.specs.List.{fold};
 ghost use Rattle.history_core.specs.Schedules.{HasOperations, IsFirstOverrun, max_limit, Overruns};
@@ -38,12 +39,14 @@ impl<R> Model for Play<R> {
 
     ghost Value = { MatrixPlaying R };
 
-    ghost view = { λ p. record { matrix = p.core; now = p.now; seats = p.seats.items; ops = p.ops.items; stamps = p.stamps.items } };
+    ghost view = { λ p.
+        record { matrix = p.core; now = p.now; seats = p.seats.items; ops = p.ops.items; stamps = p.stamps.items } };
 }
 
 impl<R: Copy> Play<R> {
     ghost use Rattle.matrix_play.specs.MatrixEvents.{size};
-    ghost use Rattle.matrix_play.specs.inner.MatrixPlays.{accesses, after_step, began, CanAccess, IsReady, next_opening, next_wish};
+    ghost use Rattle.matrix_play.specs.inner.MatrixPlays.{accesses, after_step, began, CanAccess, IsReady};
+    ghost use Rattle.matrix_play.specs.inner.MatrixPlays.{next_opening, next_wish};
     ghost use Rattle.matrix_play.specs.inner.MatrixPlays.{opening_matrix_play, seat_of};
 
     fn new(alloc: Global, n: usize, limit: u64, opening: R, now: u64) -> Result<Play<R>, AllocError>
@@ -101,7 +104,8 @@ impl<R: Copy> Play<R> {
         requires seats { who < length self.old.seats }
         requires plan { IsSome (next_wish plans.now self.old who) }
         requires small { (seat_of self.old who).begun + 1 < 2 ^ 64 }
-        ensures { IfOk result (λ wish. (next_wish plans.now self.old who ≡ Some wish) × (self.new ≡ began self.old who wish)) }
+        ensures { IfOk result (λ wish. (next_wish plans.now self.old who ≡ Some wish)
+            × (self.new ≡ began self.old who wish)) }
     {
         let seat = self.seats[who];
         let wish = planned(plans, who, seat.begun);
@@ -118,7 +122,8 @@ impl<R: Copy> Play<R> {
     /// The access that stands next for a process.
     fn access(&mut self, who: usize, wish: Wish<R>)
         requires { CanAccess self.old who }
-        ensures { (line : Progress R) × (slice_get self.old.matrix.lines who ≡ Some line) × (self.new ≡ accesses self.old who wish line) }
+        ensures { (line : Progress R) × (slice_get self.old.matrix.lines who ≡ Some line)
+            × (self.new ≡ accesses self.old who wish line) }
     {
         let n = self.seats.len();
         let now = self.now;

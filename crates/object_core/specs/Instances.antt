@@ -25,4 +25,5 @@ stale_get = ended 1 2 (Puts 1) ∷ ended 3 4 (Gets 0) ∷ []
 
 -- a put of 1 that never ended, a get of 0 from 2 to 3, and then a get of 1 from 4 to 5
 abbrev pub unfinished_put : List (Operation Touch)
-unfinished_put = record { starts = 1; ends = None; maybe = false; what = Puts 1 } ∷ ended 2 3 (Gets 0) ∷ ended 4 5 (Gets 1) ∷ []
+unfinished_put = record { starts = 1; ends = None; maybe = false; what = Puts 1 } ∷ ended 2 3 (Gets 0)
+    ∷ ended 4 5 (Gets 1) ∷ []

@@ -1,7 +1,9 @@
--- The lawful orders of a log of an object: its linearizations, after M. Herlihy and J. Wing, Linearizability: A Correctness Condition
--- for Concurrent Objects, ACM TOPLAS 12, 1990. An order is a list of places in the log; an unfinished operation may stand in it or not,
--- as there. An operation that ended and may have done nothing is this project's own.
-use Rattle.std.specs.Prelude.{◌≡◌, ℕ, ◌<◌, ◌≤◌, Bool, true, false, ◌&&◌, not, List, [], ◌∷◌, slice_get, Option, Some, is_some, IsSomeAnd}
+-- The lawful orders of a log of an object: its linearizations, after M. Herlihy and J. Wing, Linearizability:
+-- A Correctness Condition for Concurrent Objects, ACM TOPLAS 12, 1990. An order is a list of places in the
+-- log; an unfinished operation may stand in it or not, as there. An operation that ended and may have done
+-- nothing is this project's own.
+use Rattle.std.specs.Prelude.{◌≡◌, ℕ, ◌<◌, ◌≤◌, Bool, true, false, ◌&&◌, not, List, [], ◌∷◌, slice_get}
+use Rattle.std.specs.Prelude.{Option, Some, is_some, IsSomeAnd}
 use Rattle.history_core.specs.Orders.{times_of}
 use Rattle.object_core.specs.declared.operation.Operation.{Operation}
 
@@ -26,7 +28,8 @@ module _ {W : Type 0} where
   -- nothing that stands in the order precedes the operation at place p
   abbrev pub NonePrecedes : List (Operation W) → List ℕ → ℕ → Type 0
   NonePrecedes log order p =
-      (q : ℕ) (a b : Operation W) → 0 < times_of q order → slice_get log q ≡ Some a → slice_get log p ≡ Some b → ¬ Precedes a b
+      (q : ℕ) (a b : Operation W) → 0 < times_of q order → slice_get log q ≡ Some a →
+      slice_get log p ≡ Some b → ¬ Precedes a b
 
   -- precedence: nothing that stands behind an operation precedes it
   abbrev pub KeepsPrecedence : List (Operation W) → List ℕ → Type 0
@@ -41,7 +44,8 @@ module _ {S W : Type 0} where
       (o : Operation W) × (t : S) × (slice_get log p ≡ Some o) × (after s o.what ≡ Some t) × CanMake after log t order
 
   -- a lawful order of a log of an object whose first state is `opening`
-  pub record IsLawfulOrder (after : S → W → Option S) (opening : S) (log : List (Operation W)) (order : List ℕ) : Type 0 where
+  pub record IsLawfulOrder (after : S → W → Option S) (opening : S) (log : List (Operation W))
+      (order : List ℕ) : Type 0 where
     pub listing : IsListing log order
     pub precedence : KeepsPrecedence log order
     pub steps : CanMake after log opening order

@@ -9,7 +9,8 @@ pub fn beside_is_lawful()
     ensures { IsLawfulOrder cell_after 0 get_beside_put (0 ∷ 1 ∷ []) }
 {}
 
-/// A get that began after a put of another number had ended can't have the number before it: the log is not linearizable.
+/// A get that began after a put of another number had ended can't have the number before it:
+/// the log is not linearizable.
 pub fn stale_is_unlawful()
     ensures { ¬ IsLinearizable cell_after 0 stale_get }
 {}

@@ -1,4 +1,5 @@
-//! Objects, logs of operations on one, and which orders of a log are lawful: linearizability, after M. Herlihy and J. Wing, 1990.
+//! Objects, logs of operations on one, and which orders of a log are lawful: linearizability, after
+//! M. Herlihy and J. Wing, 1990.
 #![tactic(auto)]
 
 pub mod laws;

@@ -1,7 +1,7 @@
 ghost use Rattle.std.specs.Prelude.{◌≡◌, ◌↔◌, IsTrue, Option, Some};
 
-/// An object, by its states: a type of states with the step that each operation makes in one. What an operation does is its input
-/// together with its answer, so a step is possible where the object may give that answer.
+/// An object, by its states: a type of states with the step that each operation makes in one. What an operation does is
+/// its input together with its answer, so a step is possible where the object may give that answer.
 pub trait Object: Copy {
     /// What an operation does.
     type What: Copy;

@@ -1,4 +1,5 @@
-//! `picture`: draws a history with an order of it, or the report of a schedule, that comes as a document on standard input.
+//! `picture`: draws a history with an order of it, or the report of a schedule, that comes as
+//! a document on standard input.
 #![tactic(auto)]
 
 use picture_answers::{PICTURE, run};

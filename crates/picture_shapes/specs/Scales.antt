@@ -1,6 +1,7 @@
--- Where moments and lanes lie in a picture, in pixels (this project's own). The numbers are looks alone: the margin at the left, the
--- width of a column, the margin at the top and the height of a lane.
-use Rattle.std.specs.Prelude.{ℕ, ◌+◌, ◌-◌, ◌*◌, ◌/◌, ◌^◌, Bool, nat_le, max, min, List, Option, None, Some, if◌then◌else◌}
+-- Where moments and lanes lie in a picture, in pixels (this project's own). The numbers are looks alone: the margin at
+-- the left, the width of a column, the margin at the top and the height of a lane.
+use Rattle.std.specs.Prelude.{ℕ, ◌+◌, ◌-◌, ◌*◌, ◌/◌, ◌^◌, Bool, nat_le, max, min, List}
+use Rattle.std.specs.Prelude.{Option, None, Some, if◌then◌else◌}
 use Rattle.std.specs.List.{fold}
 use Rattle.history_core.specs.declared.band.Band.{Band}
 use Rattle.history_core.specs.declared.history.Op.{Op}

@@ -1,5 +1,7 @@
--- The text of each shape of a picture, in SVG 1.1 (W3C, Scalable Vector Graphics). Which shapes there are is this project's own.
-use Rattle.std.specs.Prelude.{ℕ, ◌+◌, ◌-◌, ◌*◌, ◌/◌, ◌%◌, ◌++◌, max, List, [], codes, Bool, true, false, Option, None, Some, is_some}
+-- The text of each shape of a picture, in SVG 1.1 (W3C, Scalable Vector Graphics). Which shapes
+-- there are is this project's own.
+use Rattle.std.specs.Prelude.{ℕ, ◌+◌, ◌-◌, ◌*◌, ◌/◌, ◌%◌, ◌++◌, max, List, [], codes, Bool, true}
+use Rattle.std.specs.Prelude.{false, Option, None, Some, is_some}
 use Rattle.std.specs.Prelude.{nat_eq, nat_lt, if◌then◌else◌}
 use Rattle.std.specs.Fmt.{decimal}
 use Rattle.history_core.specs.declared.band.Band.{Band}
@@ -35,7 +37,8 @@ bar_end true = codes "z\"/>\n"
 bar_end false = codes "\"/>\n"
 
 unfoldable pub bar_sides : Bar → List ℕ
-bar_sides b = codes "H" ++ decimal b.from ++ codes "v" ++ decimal b.high ++ codes "H" ++ decimal b.to ++ bar_end b.closed
+bar_sides b = codes "H" ++ decimal b.from ++ codes "v" ++ decimal b.high ++ codes "H" ++ decimal b.to
+    ++ bar_end b.closed
 
 unfoldable pub bar_text : Bar → List ℕ
 bar_text b = bar_head b.class ++ decimal b.to ++ codes " " ++ decimal b.y ++ bar_sides b
@@ -76,7 +79,8 @@ item_words x y item = words_head x y ++ item_text item ++ words_end
 unfoldable pub op_shapes : Scale → Option Stamp → Op Band → List ℕ
 op_shapes s stamp op =
     bar_text (bar_of (class_of op.kind) s op.who op.starts op.ends)
-    ++ kind_words (x_of s op.starts) (y_of op.who + 14) op.kind stamp ++ item_words (x_of s op.starts) (y_of op.who + 28) op.item
+    ++ kind_words (x_of s op.starts) (y_of op.who + 14) op.kind stamp ++ item_words (x_of s op.starts)
+    (y_of op.who + 28) op.item
 
 -- ---- points and joins
 
@@ -124,30 +128,35 @@ unfoldable pub cell_name : ℕ → ℕ → List ℕ
 cell_name writer reader = codes "cell (" ++ decimal writer ++ codes "," ++ decimal reader ++ codes ")"
 
 abbrev pub side_name : ℕ → List ℕ
-side_name k = if nat_eq k 0 then codes "writer" else (if nat_eq k 1 then codes "reader" else codes "slot " ++ decimal (k - 2))
+side_name k = if nat_eq k 0 then codes "writer"
+    else (if nat_eq k 1 then codes "reader" else codes "slot " ++ decimal (k - 2))
 
 -- of n processes, cell number `cell` by writer and reader
 abbrev pub board_cell_name : ℕ → ℕ → List ℕ
 board_cell_name n cell = cell_name (cell / max 1 (n - 1)) (other (cell / max 1 (n - 1)) (cell % max 1 (n - 1)))
 
--- of a cell's picture the first two lanes are its sides, and the others its slots; of a board's the first lanes are the processes
+-- of a cell's picture the first two lanes are its sides, and the others its slots; of a board's the
+-- first lanes are the processes
 abbrev pub lane_name : Lanes → ℕ → List ℕ
 lane_name Actors k = actor_name k
 lane_name Cell k = side_name k
 lane_name (Board n) k = if nat_lt k n then actor_name k else board_cell_name n (k - n)
 
 unfoldable pub lane_words : Lanes → ℕ → List ℕ
-lane_words lanes k = codes "\"/><text x=\"8\" y=\"" ++ decimal (y_of k + 48) ++ codes "\">" ++ lane_name lanes k ++ words_end
+lane_words lanes k = codes "\"/><text x=\"8\" y=\"" ++ decimal (y_of k + 48) ++ codes "\">"
+    ++ lane_name lanes k ++ words_end
 
 unfoldable pub lane_head : Lanes → ℕ → ℕ → List ℕ
-lane_head lanes far k = codes "<path class=\"l\" d=\"M0 " ++ decimal (y_of k) ++ codes "H" ++ decimal far ++ lane_words lanes k
+lane_head lanes far k = codes "<path class=\"l\" d=\"M0 " ++ decimal (y_of k) ++ codes "H" ++ decimal far
+    ++ lane_words lanes k
 
 -- the lane of a board's cell has a row for each slot
 abbrev pub row_y : ℕ → ℕ → ℕ
 row_y lane slot = y_of lane + 6 + 14 * slot
 
 unfoldable pub row_text : ℕ → ℕ → List ℕ
-row_text lane slot = codes "<text class=\"a\" x=\"82\" y=\"" ++ decimal (row_y lane slot + 9) ++ codes "\">" ++ decimal slot ++ words_end
+row_text lane slot = codes "<text class=\"a\" x=\"82\" y=\"" ++ decimal (row_y lane slot + 9) ++ codes "\">"
+    ++ decimal slot ++ words_end
 
 unfoldable pub cell_rows : ℕ → List ℕ
 cell_rows lane = row_text lane 0 ++ row_text lane 1 ++ row_text lane 2 ++ row_text lane 3
@@ -162,10 +171,12 @@ lane_text lanes far k = lane_head lanes far k ++ rows_text lanes k
 
 -- a moment on the axis
 unfoldable pub tick_words : ℕ → ℕ → List ℕ
-tick_words x moment = codes "\"/><text class=\"a\" x=\"" ++ decimal x ++ codes "\" y=\"62\">" ++ decimal moment ++ words_end
+tick_words x moment = codes "\"/><text class=\"a\" x=\"" ++ decimal x ++ codes "\" y=\"62\">"
+    ++ decimal moment ++ words_end
 
 unfoldable pub tick_text : ℕ → ℕ → ℕ → List ℕ
-tick_text x high moment = codes "<path class=\"t\" d=\"M" ++ decimal x ++ codes " 68V" ++ decimal high ++ tick_words x moment
+tick_text x high moment = codes "<path class=\"t\" d=\"M" ++ decimal x ++ codes " 68V" ++ decimal high
+    ++ tick_words x moment
 
 -- the beginning of a term
 unfoldable pub term_name : ℕ → ℕ → List ℕ
@@ -177,7 +188,9 @@ term_y number = 36 + 12 * (number % 2)
 
 unfoldable pub term_words : ℕ → ℕ → ℕ → List ℕ
 term_words x number limit =
-    codes "\"/><text x=\"" ++ decimal x ++ codes "\" y=\"" ++ decimal (term_y number) ++ codes "\">" ++ term_name number limit
+    codes "\"/><text x=\"" ++ decimal x ++ codes "\" y=\"" ++ decimal (term_y number) ++ codes "\">"
+    ++ term_name number limit
 
 unfoldable pub term_text : ℕ → ℕ → ℕ → ℕ → List ℕ
-term_text x high number limit = codes "<path class=\"s\" d=\"M" ++ decimal x ++ codes " 52V" ++ decimal high ++ term_words x number limit
+term_text x high number limit = codes "<path class=\"s\" d=\"M" ++ decimal x ++ codes " 52V" ++ decimal high
+    ++ term_words x number limit

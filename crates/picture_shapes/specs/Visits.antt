@@ -1,7 +1,8 @@
--- The slot accesses of a schedule, by its positions and by the slots of its report (H. Simpson, Four-slot fully asynchronous
--- communication mechanism, IEE Proceedings E, 1990): a write is in its slot from its second event to its third, a read from its
--- fourth to its fifth. Events of an access are counted from 0.
-use Rattle.std.specs.Prelude.{ℕ, ◌≡◌, ◌≤◌, ◌+◌, ◌-◌, ◌*◌, List, [], ◌∷◌, ◌++◌, length, max, take, drop, get_or, slice_get, Option, None}
+-- The slot accesses of a schedule, by its positions and by the slots of its report (H. Simpson, Four-slot fully
+-- asynchronous communication mechanism, IEE Proceedings E, 1990): a write is in its slot from its second event to its
+-- third, a read from its fourth to its fifth. Events of an access are counted from 0.
+use Rattle.std.specs.Prelude.{ℕ, ◌≡◌, ◌≤◌, ◌+◌, ◌-◌, ◌*◌, List, [], ◌∷◌, ◌++◌, length, max, take, drop}
+use Rattle.std.specs.Prelude.{get_or, slice_get, Option, None}
 use Rattle.std.specs.Prelude.{Some, nat_eq, nat_le, nat_lt, zero, suc, if◌then◌else◌}
 use Rattle.std.specs.List.{fold}
 use Rattle.four_slot_core.specs.Play.{cell_span}
@@ -79,13 +80,15 @@ seat i j = if nat_lt j i then j else j - 1
 abbrev pub cell_lane : ℕ → ℕ → ℕ → ℕ
 cell_lane wide i j = wide + i * (wide - 1) + seat i j
 
--- of n processes, access number `access` of an operation of process `who`: the reads of its column, then the writes of its row
+-- of n processes, access number `access` of an operation of process `who`: the reads of its
+-- column, then the writes of its row
 abbrev pub access_turn : ℕ → ℕ → Turn
 access_turn n access = if nat_lt (access + 1) n then Reader else Writer
 
 abbrev pub access_lane : ℕ → ℕ → ℕ → ℕ → ℕ
 access_lane wide n who access =
-    if nat_lt (access + 1) n then cell_lane wide (other who access) who else cell_lane wide who (other who (access + 1 - n))
+    if nat_lt (access + 1) n then cell_lane wide (other who access) who
+    else cell_lane wide who (other who (access + 1 - n))
 
 abbrev pub row_visits : Positions → ℕ → ℕ → ℕ → ℕ → ℕ → List (Option ℕ) → List Visit
 row_visits at k wide n who access [] = []
@@ -103,7 +106,8 @@ own_visits at wide n who rows k place (op ∷ ops) =
 abbrev pub term_visits : ℕ → Span Band → ℕ → List (List (Option ℕ)) → List (Op Band) → ℕ → List Visit
 term_visits at span wide rows ops zero = []
 term_visits at span wide rows ops (suc who) =
-    term_visits at span wide rows ops who ++ own_visits (access_at at span who) wide (length span.plans) who rows 0 0 ops
+    term_visits at span wide rows ops who ++ own_visits (access_at at span who) wide
+    (length span.plans) who rows 0 0 ops
 
 -- the place of a term's first operation, where `ops` is the number of all operations
 abbrev pub first_of : ℕ → Option Term → ℕ
@@ -116,7 +120,8 @@ ops_between from to ops = take (to - from) (drop from ops)
 abbrev pub first_in : List Term → List (Op Band) → ℕ → ℕ
 first_in marks ops t = first_of (length ops) (slice_get marks t)
 
-abbrev pub terms_visits : ℕ → List Term → List (Op Band) → List (List (Option ℕ)) → ℕ → ℕ → List (MatrixTerm Band) → List Visit
+abbrev pub terms_visits : ℕ → List Term → List (Op Band) → List (List (Option ℕ)) → ℕ → ℕ →
+    List (MatrixTerm Band) → List Visit
 terms_visits wide marks ops rows at t [] = []
 terms_visits wide marks ops rows at t (term ∷ terms) =
     term_visits at (board_span term) wide (drop (first_in marks ops t) rows)
@@ -129,7 +134,9 @@ abbrev pub widest : List (MatrixTerm Band) → ℕ
 widest terms = fold (λ n term. max n (length term.plans)) 0 terms
 
 abbrev pub board_visits : List (MatrixTerm Band) → List Term → List (Op Band) → List (List (Option ℕ)) → List Visit
-board_visits terms marks ops rows = if nat_le (widest terms) 4 then terms_visits (widest terms) marks ops rows 0 0 terms else []
+board_visits terms marks ops rows = if nat_le (widest terms) 4
+    then terms_visits (widest terms) marks ops rows 0 0 terms else []
 
 abbrev pub AllFit : List (MatrixTerm Band) → Type 0
-AllFit terms = (t : ℕ) (term : MatrixTerm Band) → slice_get terms t ≡ Some term → (1 ≤ length term.plans) × (length term.plans ≤ 4)
+AllFit terms = (t : ℕ) (term : MatrixTerm Band) → slice_get terms t ≡ Some term →
+    (1 ≤ length term.plans) × (length term.plans ≤ 4)

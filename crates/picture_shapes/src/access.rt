@@ -30,8 +30,8 @@ impl Steps {
     }
 }
 
-/// An access of an operation: the number of the operation among those of its process, its own number in the operation, whose step
-/// of its cell it is, and the lane.
+/// An access of an operation: the number of the operation among those of its process, its own number in the operation,
+/// whose step of its cell it is, and the lane.
 #[derive(Clone, Copy)]
 pub struct Access {
     pub operation: usize,

@@ -12,7 +12,8 @@ use four_slot_core::{CellSchedule, Turn};
 use history_core::{Band, Items, Op};
 use std::alloc::{AllocError, Global};
 
-/// The slot accesses of a cell's schedule whose operations have these slots: those of the writer before those of the reader.
+/// The slot accesses of a cell's schedule whose operations have these slots: those of the
+/// writer before those of the reader.
 pub fn cell_visits(
     alloc: Global,
     schedule: &CellSchedule<Band>,
@@ -90,8 +91,10 @@ fn push_own_access(
     access: Access,
     slot: Option<u8>,
 ) -> Result<(), AllocError>
-    ensures { OnOk result (visits.new.items ≡ visits.old.items ++ (if own then access_visits (events_in steps.now.positions
-        steps.now.events) access.operation access.number access.lane access.turn slot else [])) }
+    ensures { OnOk result
+        (visits.new.items ≡ visits.old.items
+        ++ (if own then access_visits (events_in steps.now.positions steps.now.events)
+        access.operation access.number access.lane access.turn slot else [])) }
 {
     if own {
         push_access(visits, steps, access, slot)?;

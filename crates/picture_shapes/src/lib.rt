@@ -1,5 +1,5 @@
-//! The text of each shape of a picture, in SVG, and where moments and lanes lie in it; and the slot accesses of the schedules of cells and
-//! boards, by the positions of their steps, with the lanes in which they are drawn.
+//! The text of each shape of a picture, in SVG, and where moments and lanes lie in it; and the slot accesses of the
+//! schedules of cells and boards, by the positions of their steps, with the lanes in which they are drawn.
 #![tactic(auto)]
 
 mod access;

@@ -1,7 +1,8 @@
 //! Where moments and lanes lie.
 
 ghost use Rattle.std.specs.Prelude.{◌≡◌, ◌<◌, ◌≤◌};
-ghost use Rattle.picture_shapes.specs.Scales.{actors_of, far_of, later_end, least_of, most_of, scale_of, extra_of, unit_in, x_of, y_of};
+ghost use Rattle.picture_shapes.specs.Scales.{actors_of, far_of, later_end, least_of, most_of, scale_of};
+ghost use Rattle.picture_shapes.specs.Scales.{extra_of, unit_in, x_of, y_of};
 
 use crate::scale::Scale;
 use history_core::{Band, Op};

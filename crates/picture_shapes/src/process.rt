@@ -46,7 +46,8 @@ pub fn push_own(
     requires who { process.who < process.processes }
     requires wide { process.wide ≤ 4 }
     ensures { OnOk result (visits.new.items ≡ visits.old.items
-        ++ own_visits (events_in steps.now.positions steps.now.events) process.wide process.processes process.who rows.now 0 0 ops.now) }
+        ++ own_visits (events_in steps.now.positions steps.now.events)
+        process.wide process.processes process.who rows.now 0 0 ops.now) }
 {
     let mut k = 0;
     for place in 0..ops.len() {

@@ -1,5 +1,5 @@
-//! The text of each shape, and here of a bar. A text is put together from its end, in a line of 256 bytes; each function that puts a piece
-//! asks for as much room as the longest such piece needs.
+//! The text of each shape, and here of a bar. A text is put together from its end, in a line of 256 bytes; each
+//! function that puts a piece asks for as much room as the longest such piece needs.
 
 ghost use Rattle.std.specs.Prelude.{◌≡◌, ◌+◌, ◌≤◌, ◌++◌, length};
 ghost use Rattle.picture_shapes.specs.Shapes.{bar_end, bar_head, bar_of, bar_sides, bar_text, class_of, end_of};

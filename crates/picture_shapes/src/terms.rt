@@ -12,8 +12,8 @@ use history_core::{Band, Items, Op, Term};
 use matrix_core::MatrixTerm;
 use std::alloc::{AllocError, Global};
 
-/// The slot accesses of a board's schedule, where they are drawn. The terms of its history are `marks`, and its operations have
-/// these rows of slots.
+/// The slot accesses of a board's schedule, where they are drawn. The terms of its history are `marks`, and its
+/// operations have these rows of slots.
 pub fn board_visits(
     alloc: Global,
     terms: &[MatrixTerm<Band>],

@@ -1,6 +1,7 @@
--- The text of a picture (this project's own): lanes, axis and terms, then arrows, the operations, the slot accesses, the marks of what
--- breaks the order or of why there is none, and the order's joins and points.
-use Rattle.std.specs.Prelude.{ℕ, ◌+◌, ◌-◌, ◌*◌, ◌/◌, ◌^◌, ◌++◌, min, List, [], ◌∷◌, codes, Bool, true, false, Option, None, Some, slice_get}
+-- The text of a picture (this project's own): lanes, axis and terms, then arrows, the operations, the slot accesses,
+-- the marks of what breaks the order or of why there is none, and the order's joins and points.
+use Rattle.std.specs.Prelude.{ℕ, ◌+◌, ◌-◌, ◌*◌, ◌/◌, ◌^◌, ◌++◌, min, List, [], ◌∷◌, codes, Bool, true, false}
+use Rattle.std.specs.Prelude.{Option, None, Some, slice_get}
 use Rattle.std.specs.Prelude.{zero, suc, nat_le, if◌then◌else◌}
 use Rattle.std.specs.Fmt.{decimal}
 use Rattle.std.specs.List.{flat_map}
@@ -18,7 +19,8 @@ use Rattle.print_report.specs.Lines.{entry_at}
 use Rattle.matrix_core.specs.declared.schedule.MatrixTerm.{MatrixTerm}
 use Rattle.picture_shapes.specs.Looks.{looks}
 use Rattle.picture_shapes.specs.Scales.{actors_of, far_of, scale_of, unit_in, x_of, y_of}
-use Rattle.picture_shapes.specs.Shapes.{bar_of, bar_text, class_of, end_of, join_text, lane_text, lawful_words, op_shapes, place_text}
+use Rattle.picture_shapes.specs.Shapes.{bar_of, bar_text, class_of, end_of, join_text, lane_text}
+use Rattle.picture_shapes.specs.Shapes.{lawful_words, op_shapes, place_text}
 use Rattle.picture_shapes.specs.Shapes.{row_y, point_text, term_text, tick_text, unlawful_head, words_end}
 use Rattle.picture_shapes.specs.declared.scale.Scale.{Scale}
 use Rattle.picture_shapes.specs.declared.shape.lanes.Lanes.{Lanes}
@@ -36,7 +38,8 @@ use Rattle.print_picture.specs.declared.scene.Scene.{Scene}
 -- ---- the frame
 
 unfoldable pub size_text : ℕ → ℕ → List ℕ
-size_text far high = codes "<svg xmlns=\"http://www.w3.org/2000/svg\" width=\"" ++ decimal far ++ codes "\" height=\"" ++ decimal high
+size_text far high = codes "<svg xmlns=\"http://www.w3.org/2000/svg\" width=\"" ++ decimal far
+    ++ codes "\" height=\"" ++ decimal high
 
 abbrev pub head_text : ℕ → ℕ → List ℕ
 head_text far high = size_text far high ++ looks
@@ -110,7 +113,8 @@ points_text s ops points n (p ∷ order) = point_at s points n (slice_get ops p)
 abbrev pub join_at : Scale → List ℕ → ℕ → Option Spot → Option (Op Band) → List ℕ
 join_at s points n write None = []
 join_at s points n None (Some op) = []
-join_at s points n (Some write) (Some op) = if is_write op.kind then [] else join_text Answers write (spot_of s points n op)
+join_at s points n (Some write) (Some op) = if is_write op.kind then []
+    else join_text Answers write (spot_of s points n op)
 
 abbrev pub write_after : Scale → List ℕ → ℕ → Option Spot → Option (Op Band) → Option Spot
 write_after s points n write None = write
@@ -119,7 +123,8 @@ write_after s points n write (Some op) = if is_write op.kind then Some (spot_of 
 abbrev pub joins_text : Scale → List (Op Band) → List ℕ → ℕ → Option Spot → List ℕ → List ℕ
 joins_text s ops points n write [] = []
 joins_text s ops points n write (p ∷ order) =
-    join_at s points n write (slice_get ops p) ++ joins_text s ops points (n + 1) (write_after s points n write (slice_get ops p)) order
+    join_at s points n write (slice_get ops p) ++ joins_text s ops points (n + 1)
+    (write_after s points n write (slice_get ops p)) order
 
 -- ---- what breaks the order
 
@@ -127,16 +132,19 @@ unfoldable pub break_words : Break → List ℕ
 break_words (NoPlace entry) =
     unlawful_head ++ codes "listing: entry " ++ decimal entry ++ codes " of the order is no operation" ++ words_end
 break_words (Times place times) =
-    unlawful_head ++ codes "listing: operation " ++ decimal place ++ codes " stands " ++ decimal times ++ codes " times" ++ words_end
+    unlawful_head ++ codes "listing: operation " ++ decimal place ++ codes " stands " ++ decimal times
+    ++ codes " times" ++ words_end
 break_words (Precedence earlier entry) =
     unlawful_head ++ codes "precedence: entry " ++ decimal entry ++ codes " stands after entry " ++ decimal earlier
     ++ codes ", and ended before it began" ++ words_end
-break_words (NoItem entry) = unlawful_head ++ codes "reading: entry " ++ decimal entry ++ codes " has no record" ++ words_end
+break_words (NoItem entry) = unlawful_head ++ codes "reading: entry " ++ decimal entry
+    ++ codes " has no record" ++ words_end
 break_words (Reading entry None) =
-    unlawful_head ++ codes "reading: entry " ++ decimal entry ++ codes " has another record than the opening" ++ words_end
+    unlawful_head ++ codes "reading: entry " ++ decimal entry
+    ++ codes " has another record than the opening" ++ words_end
 break_words (Reading entry (Some write)) =
-    unlawful_head ++ codes "reading: entry " ++ decimal entry ++ codes " has another record than entry " ++ decimal write
-    ++ codes ", the last write before it" ++ words_end
+    unlawful_head ++ codes "reading: entry " ++ decimal entry
+    ++ codes " has another record than entry " ++ decimal write ++ codes ", the last write before it" ++ words_end
 break_words (Limit entry writes) =
     unlawful_head ++ codes "limit: entry " ++ decimal entry ++ codes " was refused after " ++ decimal writes
     ++ codes " writes of its term" ++ words_end
@@ -180,13 +188,14 @@ crossed_words a b c d =
 
 unfoldable pub reason_words : Reason → List ℕ
 reason_words (reason.Unwritten read) =
-    unlawful_head ++ codes "unwritten: operation " ++ decimal read ++ codes " has a record that is neither the opening nor written"
-    ++ words_end
+    unlawful_head ++ codes "unwritten: operation " ++ decimal read
+    ++ codes " has a record that is neither the opening nor written" ++ words_end
 reason_words (reason.Early read write) =
     unlawful_head ++ codes "early: operation " ++ decimal read ++ codes " precedes operation " ++ decimal write
     ++ codes ", which writes its record" ++ words_end
 reason_words (reason.Stale before read) =
-    unlawful_head ++ codes "stale: operation " ++ decimal before ++ codes ", of another record, precedes operation " ++ decimal read
+    unlawful_head ++ codes "stale: operation " ++ decimal before
+    ++ codes ", of another record, precedes operation " ++ decimal read
     ++ codes ", which gave the opening" ++ words_end
 reason_words (reason.Crossed a b c d) = crossed_words a b c d
 reason_words (reason.Limit refused) =
@@ -290,5 +299,6 @@ picture_of c =
     let s = scale_of c.history.ops in
     let count = lanes_of c.lanes c.history.ops in
     frame_text c.lanes c.moments s count (high_of count) c.history.ops (shown_terms c.lanes c.history.terms)
-    ++ arrows_text s c.history.ops c.finding ++ ops_text s c.stamps 0 c.history.ops ++ flat_map (visit_text c.lanes s) c.visits
-    ++ finding_text s c.history.ops c.order c.points c.finding ++ order_shapes s c.history.ops c.order c.points ++ end_text c.finding
+    ++ arrows_text s c.history.ops c.finding ++ ops_text s c.stamps 0 c.history.ops
+    ++ flat_map (visit_text c.lanes s) c.visits ++ finding_text s c.history.ops c.order c.points c.finding
+    ++ order_shapes s c.history.ops c.order c.points ++ end_text c.finding

@@ -20,7 +20,8 @@ pub fn push_break(
     points: &[u64],
     broken: Break,
 ) -> Result<(), AllocError>
-    ensures { OnOk result (text.new.items ≡ text.old.items ++ break_text scale.now ops.now order.now points.now broken) }
+    ensures { OnOk result
+        (text.new.items ≡ text.old.items ++ break_text scale.now ops.now order.now points.now broken) }
 {
     match broken {
         Break::NoPlace { .. } => Ok(()),

@@ -35,7 +35,8 @@ pub fn push_finding(
     points: &[u64],
     finding: Finding,
 ) -> Result<(), AllocError>
-    ensures { OnOk result (text.new.items ≡ text.old.items ++ finding_text scale.now ops.now order.now points.now finding) }
+    ensures { OnOk result
+        (text.new.items ≡ text.old.items ++ finding_text scale.now ops.now order.now points.now finding) }
 {
     match finding {
         Finding::Lawful => Ok(()),

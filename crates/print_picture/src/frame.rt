@@ -1,7 +1,8 @@
 //! The frame of a picture: its head, its lanes, its axis and its terms.
 
 ghost use Rattle.std.specs.Prelude.{◌≡◌, ◌<◌, ◌≤◌, ◌^◌, ◌++◌, OnOk, length, slice_get};
-ghost use Rattle.print_picture.specs.Picture.{begin_x, frame_text, head_text, lanes_text, size_text, terms_text, tick_at, tick_moment};
+ghost use Rattle.print_picture.specs.Picture.{begin_x, frame_text, head_text, lanes_text, size_text};
+ghost use Rattle.print_picture.specs.Picture.{terms_text, tick_at, tick_moment};
 ghost use Rattle.print_picture.specs.Picture.{ticks_of, ticks_text, told_moment};
 ghost use Rattle.picture_shapes.specs.Shapes.{cell_rows, lane_text, row_text};
 
@@ -21,7 +22,8 @@ pub fn push_frame(
     ops: &[Op<Band>],
     terms: &[Term],
 ) -> Result<(), AllocError>
-    ensures { OnOk result (text.new.items ≡ text.old.items ++ frame_text lanes moments.now scale.now count high ops.now terms.now) }
+    ensures { OnOk result
+        (text.new.items ≡ text.old.items ++ frame_text lanes moments.now scale.now count high ops.now terms.now) }
 {
     let far = scale.far();
     push_head(text, far, high)?;

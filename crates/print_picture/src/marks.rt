@@ -3,7 +3,8 @@
 ghost use Rattle.std.specs.Prelude.{◌≡◌, ◌≤◌, ◌++◌, None, OnOk, slice_get};
 ghost use Rattle.std.specs.List.{flat_map};
 ghost use Rattle.print_report.specs.Lines.{entry_at};
-ghost use Rattle.print_picture.specs.Picture.{join_at, joins_text, ops_text, order_shapes, point_at, points_text, row_bar, slot_bar};
+ghost use Rattle.print_picture.specs.Picture.{join_at, joins_text, ops_text, order_shapes, point_at};
+ghost use Rattle.print_picture.specs.Picture.{points_text, row_bar, slot_bar};
 ghost use Rattle.print_picture.specs.Picture.{spot_of, visit_bar, visit_text, write_after};
 ghost use Rattle.picture_shapes.specs.Shapes.{op_shapes};
 
@@ -134,7 +135,8 @@ fn push_joins(
     order: &[usize],
     points: &[u64],
 ) -> Result<(), AllocError>
-    ensures { OnOk result (text.new.items ≡ text.old.items ++ joins_text scale.now ops.now points.now 0 None order.now) }
+    ensures { OnOk result
+        (text.new.items ≡ text.old.items ++ joins_text scale.now ops.now points.now 0 None order.now) }
 {
     let mut line = Line::new();
     let mut write = None;

@@ -1,8 +1,9 @@
-//! Why no order is lawful: the operations of the reason with their places, an arrow from each that precedes another, and a line of
-//! text.
+//! Why no order is lawful: the operations of the reason with their places, an arrow from each that precedes
+//! another, and a line of text.
 
 ghost use Rattle.std.specs.Prelude.{◌≡◌, ◌+◌, ◌≤◌, ◌++◌, OnOk, length, slice_get};
-ghost use Rattle.print_picture.specs.Picture.{arrow_between, arrow_text, begin_spot, both_words, crossed_words, end_spot, named_text};
+ghost use Rattle.print_picture.specs.Picture.{arrow_between, arrow_text, begin_spot, both_words};
+ghost use Rattle.print_picture.specs.Picture.{crossed_words, end_spot, named_text};
 ghost use Rattle.print_picture.specs.Picture.{place_spot, precedence_text};
 ghost use Rattle.print_picture.specs.Picture.{precedes_words, reason_arrows, reason_text, reason_words};
 

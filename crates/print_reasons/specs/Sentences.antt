@@ -30,12 +30,13 @@ apart_text thinned a b =
     ++ number_text (codes ", line ") (line_at b) ++ number_text (codes " began at ") (begin_at thinned b)
 
 abbrev pub unwritten_text : ℕ → List ℕ
-unwritten_text read = number_text (codes "Line ") (line_at read) ++ codes " gave a record that is neither the opening nor written.\n"
+unwritten_text read = number_text (codes "Line ")
+    (line_at read) ++ codes " gave a record that is neither the opening nor written.\n"
 
 abbrev pub early_text : Thinned → ℕ → ℕ → List ℕ
 early_text thinned read write =
-    number_text (codes "Line ") (line_at read) ++ codes " gave a record before the write of it began: " ++ apart_text thinned read write
-    ++ codes ".\n"
+    number_text (codes "Line ") (line_at read) ++ codes " gave a record before the write of it began: "
+    ++ apart_text thinned read write ++ codes ".\n"
 
 abbrev pub stale_text : Thinned → ℕ → ℕ → List ℕ
 stale_text thinned before read =
@@ -45,8 +46,8 @@ stale_text thinned before read =
 -- a and d are of one record, b and c of another
 abbrev pub crossed_text : Thinned → ℕ → ℕ → ℕ → ℕ → List ℕ
 crossed_text thinned a b c d =
-    codes "Each of two records has to stand before the other: " ++ apart_text thinned a b ++ codes "; " ++ apart_text thinned c d
-    ++ codes ".\n"
+    codes "Each of two records has to stand before the other: " ++ apart_text thinned a b ++ codes "; "
+    ++ apart_text thinned c d ++ codes ".\n"
 
 -- so many writes can stand before the first refused write
 abbrev pub limit_text : Thinned → ℕ → ℕ → List ℕ

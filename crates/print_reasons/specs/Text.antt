@@ -39,8 +39,8 @@ is_named_next ops places named next p = is_next places next p && is_named ops na
 abbrev pub next_of : List ℕ → ℕ → ℕ → ℕ
 next_of places next p = if is_next places next p then next + 1 else next
 
--- the lines of the named ones of the operations that are kept, which are at these places of the log, from the next of them on; the first
--- of these lines is that of the operation at place p
+-- the lines of the named ones of the operations that are kept, which are at these places of the log, from the next of
+-- them on; the first of these lines is that of the operation at place p
 abbrev pub named_text : List (Op ℕ) → List ℕ → List ℕ → ℕ → ℕ → List (List ℕ) → List ℕ
 named_text ops places named next p [] = []
 named_text ops places named next p (line ∷ lines) =

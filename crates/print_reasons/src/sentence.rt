@@ -1,6 +1,7 @@
 //! A reason in one sentence.
 ghost use Rattle.std.specs.Prelude.{◌≡◌, ◌++◌, OnOk, codes};
-ghost use Rattle.print_reasons.specs.Sentences.{apart_text, begin_at, crossed_text, early_text, end_at, limit_text, number_text, op_at};
+ghost use Rattle.print_reasons.specs.Sentences.{apart_text, begin_at, crossed_text, early_text, end_at};
+ghost use Rattle.print_reasons.specs.Sentences.{limit_text, number_text, op_at};
 ghost use Rattle.print_reasons.specs.Sentences.{sentence_text, stale_text, unwritten_text};
 ghost use Rattle.read_line.specs.Places.{line_at};
 

@@ -1,7 +1,8 @@
 //! The printed lines.
 ghost use Rattle.std.specs.Prelude.{◌≡◌, ◌++◌, IfOk, OnOk};
 ghost use Rattle.print_reasons.specs.Sentences.{number_text};
-ghost use Rattle.print_reasons.specs.Text.{body_of, in_lines, lawful_text, line_text, named_text, unlawful_text, verdict_text, write_lines};
+ghost use Rattle.print_reasons.specs.Text.{body_of, in_lines, lawful_text, line_text, named_text, unlawful_text};
+ghost use Rattle.print_reasons.specs.Text.{verdict_text, write_lines};
 ghost use Rattle.print_reasons.specs.Text.{writes_text};
 ghost use Rattle.read_document.specs.Splits.{lines_of};
 ghost use Rattle.read_line.specs.Places.{line_at};

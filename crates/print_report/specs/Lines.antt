@@ -30,7 +30,8 @@ unfoldable pub interval_text : Op Band → List ℕ
 interval_text op = codes ", " ++ decimal op.starts ++ codes ".." ++ number_text op.ends ++ codes ", "
 
 unfoldable pub op_head : ℕ → Op Band → List ℕ
-op_head place op = codes "op " ++ decimal place ++ codes ": " ++ kind_text op.kind ++ codes " by " ++ decimal op.who ++ interval_text op
+op_head place op = codes "op " ++ decimal place ++ codes ": " ++ kind_text op.kind ++ codes " by " ++ decimal op.who
+    ++ interval_text op
 
 unfoldable pub op_tail : Op Band → List ℕ
 op_tail op = codes ", " ++ item_text op.item ++ line_feed ∷ []

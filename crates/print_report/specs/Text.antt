@@ -1,5 +1,6 @@
 -- The printed lines of a report (this project's own).
-use Rattle.std.specs.Prelude.{ℕ, ◌+◌, ◌++◌, List, [], ◌∷◌, take, codes, Bool, true, false, Option, Some, None, slice_get, unwrap_or}
+use Rattle.std.specs.Prelude.{ℕ, ◌+◌, ◌++◌, List, [], ◌∷◌, take, codes, Bool, true, false, Option}
+use Rattle.std.specs.Prelude.{Some, None, slice_get, unwrap_or}
 use Rattle.std.specs.Fmt.{decimal}
 use Rattle.std.specs.List.{flat_map}
 use Rattle.history_core.specs.declared.band.Band.{Band}
@@ -68,7 +69,8 @@ task_lines task [] = []
 task_lines task (counts ∷ rest) = task_line task counts ++ task_lines (task + 1) rest
 
 abbrev pub broken_line : ℕ → ℕ → List ℕ
-broken_line task call = codes "origin: broken at task " ++ decimal task ++ codes " call " ++ decimal call ++ line_feed ∷ []
+broken_line task call = codes "origin: broken at task " ++ decimal task ++ codes " call "
+    ++ decimal call ++ line_feed ∷ []
 
 -- whether each record has its origin, or the task and the call of the first that has none
 abbrev pub origin_line : Option (ℕ × ℕ) → List ℕ

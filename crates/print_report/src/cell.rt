@@ -10,7 +10,8 @@ use std::alloc::{AllocError, Global};
 /// The greatest number of operations for which room is made before they are printed.
 const MOST_ROOM: usize = 100_000;
 
-/// The printed lines of a report. Where it has no entry for an operation, as no report of a player has it, a dash stands in its place.
+/// The printed lines of a report. Where it has no entry for an operation, as no report of a player has
+/// it, a dash stands in its place.
 pub fn cell_lines(alloc: Global, report: &CellReport<Band>) -> Result<Vec<u8>, AllocError>
     ensures { IfOk result (λ v. v.items ≡ cell_lines report.now) }
 {

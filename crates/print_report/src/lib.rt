@@ -1,4 +1,5 @@
-//! The text of the reports that `fsr` prints of what it played and ran, by the lines of a history and of an order and their pieces.
+//! The text of the reports that `fsr` prints of what it played and ran, by the lines of a history and
+//! of an order and their pieces.
 #![tactic(auto)]
 
 mod cell;

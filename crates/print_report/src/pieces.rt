@@ -1,5 +1,5 @@
-//! The pieces of a line. A line is put together from its end, in a buffer of 256 bytes; each function that puts a piece asks for as
-//! much room as the longest such piece needs.
+//! The pieces of a line. A line is put together from its end, in a buffer of 256 bytes; each function that puts a piece
+//! asks for as much room as the longest such piece needs.
 ghost use Rattle.std.specs.Prelude.{◌≡◌, ◌+◌, ◌≤◌, ◌++◌, OnOk, codes, length};
 ghost use Rattle.print_report.specs.Lines.{interval_text, item_text, kind_text, number_text, op_head, op_tail};
 

@@ -17,8 +17,8 @@ pub enum Report {
         report: BoardReport<Band>,
         titled: bool,
     },
-    /// What each task of a race did, and the task and the call of the first record that has no origin, if there is one. Tasks
-    /// count from 0 and calls from 1.
+    /// What each task of a race did, and the task and the call of the first record that has no origin, if there is one.
+    /// Tasks count from 0 and calls from 1.
     Race {
         tasks: Items<Counts>,
         broken: Option<(usize, usize)>,

@@ -1,5 +1,5 @@
-//! What the players of a matrix and of a composed board tell of each operation besides its history. The line of a board, which has a
-//! slot for each access, goes out in pieces.
+//! What the players of a matrix and of a composed board tell of each operation besides its history. The line of a
+//! board, which has a slot for each access, goes out in pieces.
 ghost use Rattle.std.specs.Prelude.{◌≡◌, ◌+◌, ◌≤◌, ◌++◌, OnOk, length};
 ghost use Rattle.print_report.specs.Lines.{entry_at};
 ghost use Rattle.print_report.specs.Text.{board_mark, slots_at, slots_text, stamp_mark, stamp_text};

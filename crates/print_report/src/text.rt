@@ -13,8 +13,8 @@ use std::mem::forget;
 /// The greatest number of tasks for which room is made before they are printed.
 const MOST_TASKS: usize = 100_000;
 
-/// The printed lines of a report, which is left unfreed: a run prints one and ends, and of a board each operation has a list of slots,
-/// which go with the process.
+/// The printed lines of a report, which is left unfreed: a run prints one and ends, and of a board each operation has a
+/// list of slots, which go with the process.
 pub fn report_text_leaking(alloc: Global, report: Report) -> Result<Items<u8>, AllocError>
     ensures { IfOk result (λ text. text ≡ text_of report) }
 {

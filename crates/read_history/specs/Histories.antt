@@ -1,5 +1,6 @@
 -- What documents of histories share: the laws of their operations, and their one term (this project's own).
-use Rattle.std.specs.Prelude.{ℕ, List, [], ◌∷◌, length, Bool, true, false, not, nat_le, ◌&&◌, is_some, Option, Some, None}
+use Rattle.std.specs.Prelude.{ℕ, List, [], ◌∷◌, length, Bool, true, false, not, nat_le}
+use Rattle.std.specs.Prelude.{◌&&◌, is_some, Option, Some, None}
 use Rattle.std.specs.List.{list_all}
 use Rattle.std.specs.Option.{option_map_or}
 use Rattle.history_core.specs.Band.{fits}

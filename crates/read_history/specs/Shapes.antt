@@ -1,4 +1,5 @@
--- The shapes of a document's values: what a value stands for, or nothing where it has another shape (this project's own).
+-- The shapes of a document's values: what a value stands for, or nothing where it has
+-- another shape (this project's own).
 use Rattle.std.specs.Prelude.{ℕ, List, [], ◌∷◌, codes, if◌then◌else◌, Option, Some, None, option_map, option_and_then}
 use Rattle.std.specs.Str.{bytes_eq}
 use Rattle.serde_json.specs.Data.{Data}

@@ -18,8 +18,8 @@ use std::mem::forget;
 
 const LAST_PLACE: usize = 9_999;
 
-/// The document that the bytes stand for, or the first refusal with its first key. It is `read_value` and then `check_document`;
-/// the value in between is freed.
+/// The document that the bytes stand for, or the first refusal with its first key. It is `read_value` and then
+/// `check_document`; the value in between is freed.
 #[tactic(auto, unfolding(crate::specs::Check::check_of))]
 pub fn read_check(alloc: Global, bytes: &[u8]) -> Result<CheckDocument, DocError>
     ensures { Gives (λ d. d) result (check_of bytes.now) }
@@ -28,7 +28,8 @@ pub fn read_check(alloc: Global, bytes: &[u8]) -> Result<CheckDocument, DocError
     check_document(alloc, &value)
 }
 
-/// The same, but the value in between is left unfreed: for a run that reads one document and ends, with which the value goes.
+/// The same, but the value in between is left unfreed: for a run that reads one document and
+/// ends, with which the value goes.
 #[tactic(auto, unfolding(crate::specs::Check::check_of))]
 pub fn read_check_leaking(alloc: Global, bytes: &[u8]) -> Result<CheckDocument, DocError>
     ensures { Gives (λ d. d) result (check_of bytes.now) }

@@ -1,5 +1,5 @@
-//! Documents of histories with an order of them, the line of a verdict, and the shapes of records, lists and plans that documents of
-//! other kinds have too.
+//! Documents of histories with an order of them, the line of a verdict, and the shapes of records, lists and plans that
+//! documents of other kinds have too.
 #![tactic(auto)]
 
 mod check;

@@ -1,5 +1,5 @@
--- What a search for an order of a log answers (this project's own, over what the search promises of any history). Two records are the
--- same where they are equal.
+-- What a search for an order of a log answers (this project's own, over what the search promises of any history). Two
+-- records are the same where they are equal.
 use Rattle.std.specs.Prelude.{◌≡◌}
 use Rattle.program_runs.specs.declared.fault.Fault.{Fault}
 use Rattle.program_runs.specs.declared.fault.Fault.TheVariants as fault
@@ -9,7 +9,8 @@ use Rattle.history_core.specs.declared.history.History.{History}
 use Rattle.history_core.specs.Searches.{IsAnswered, IsFault}
 use Rattle.history_core.specs.declared.reason.Search.{Search}
 use Rattle.history_core.specs.declared.reason.SearchError.{SearchError}
-use Rattle.history_core.specs.declared.reason.SearchError.TheVariants.{NoMemory, Terms, Backwards, WritesOpening, WritesTwice}
+use Rattle.history_core.specs.declared.reason.SearchError.TheVariants.{NoMemory, Terms, Backwards}
+use Rattle.history_core.specs.declared.reason.SearchError.TheVariants.{WritesOpening, WritesTwice}
 
 -- a lawful order of the log, or that there is none, with a reason
 abbrev pub IsLogSearch : History Band → Search → Type 0

@@ -1,4 +1,5 @@
-//! Documents of a history alone, as `order` reads them: from bytes to a history to be ordered, and the search for a lawful order of it.
+//! Documents of a history alone, as `order` reads them: from bytes to a history to be ordered, and the
+//! search for a lawful order of it.
 #![tactic(auto)]
 
 mod log;

@@ -10,8 +10,8 @@ use read_history::{are_lawful, field, list_field, one_term, ops_in_range};
 use serde_json::Value;
 use std::alloc::Global;
 
-/// The history that the bytes stand for, or the first refusal with its first key. It is `read_value` and then `log_document`;
-/// the value in between is freed.
+/// The history that the bytes stand for, or the first refusal with its first key. It is `read_value` and then
+/// `log_document`; the value in between is freed.
 #[tactic(auto, unfolding(crate::specs::Log::log_of))]
 pub fn read_log(alloc: Global, bytes: &[u8]) -> Result<History<Band>, DocError>
     ensures log { Gives (λ h. h) result (log_of bytes.now) }

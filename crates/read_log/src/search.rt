@@ -7,7 +7,8 @@ use history_search::find_order;
 use program_runs::{Fault, HistoryFault};
 use std::alloc::Global;
 
-/// A lawful order of a log, or a reason why there is none. Where a record is written twice, or the opening is, no order is looked for.
+/// A lawful order of a log, or a reason why there is none. Where a record is written twice, or the
+/// opening is, no order is looked for.
 pub fn search_log(alloc: Global, log: &History<Band>) -> Result<Search, Fault>
     requires { CanBeSearched log.now }
     ensures { MatchResult result (IsLogSearch log.now) (IsLogFault log.now) }

@@ -1,5 +1,5 @@
--- Documents of kind `board`: a schedule over a composed board, a matrix whose cells are four-slot cells. It is that of a matrix,
--- and the noise (this project's own).
+-- Documents of kind `board`: a schedule over a composed board, a matrix whose cells are four-slot cells. It is that of
+-- a matrix, and the noise (this project's own).
 use Rattle.std.specs.Prelude.{[], ◌∷◌, Result, Ok}
 use Rattle.std.specs.List.{list_all}
 use Rattle.serde_json.specs.Data.{Data}

@@ -40,7 +40,8 @@ term_in_range term = limit_in_range term.limit && plans_in_range term.plans && a
 -- 1 to 16 terms, and over all of them no more members and steps than one may have
 abbrev pub terms_in_range : List (MatrixTerm Band) → Bool
 terms_in_range terms = nat_le 1 (length terms) && nat_le (length terms) 16 && list_all term_in_range terms
-    && count_in_range (sum_by (λ term. members term.plans) terms) && steps_in_range (sum_by (λ term. length term.steps) terms)
+    && count_in_range (sum_by (λ term. members term.plans) terms) && steps_in_range
+    (sum_by (λ term. length term.steps) terms)
 
 abbrev pub term_fits : MatrixTerm Band → Bool
 term_fits term = plans_fit term.plans

@@ -9,8 +9,8 @@ use Rattle.read_schedule.specs.Plans.{members, wish_fits}
 use Rattle.read_schedule.specs.declared.document.ScheduleDocument.{ScheduleDocument}
 use Rattle.read_schedule.specs.declared.document.ScheduleDocument.TheVariants.{Cell, Matrix, Board}
 
--- A race that can be run: a board can be made for its tasks, each record that is to be written fits, and a document has room for the
--- scripts.
+-- A race that can be run: a board can be made for its tasks, each record that is to be written fits, and a
+-- document has room for the scripts.
 pub record CanRace (opening : Band) (limit : ℕ) (scripts : List (List (Wish Band))) : Type 0 where
   pub opens : IsTrue (fits opening)
   pub limit_least : 1 ≤ limit

@@ -1,5 +1,5 @@
--- The terms of a schedule over a matrix of cells: several under the key `terms`, or one whose keys stand at the top (this
--- project's own).
+-- The terms of a schedule over a matrix of cells: several under the key `terms`, or one whose keys stand at
+-- the top (this project's own).
 use Rattle.std.specs.Prelude.{ℕ, List, [], ◌∷◌, length, Bool, true, false, is_some, Result, Ok, ⊤}
 use Rattle.serde_json.specs.Data.{Data}
 use Rattle.serde_json.specs.Find.{get}

@@ -1,7 +1,8 @@
 //! The plans and steps of a matrix, and its terms.
 ghost use Rattle.std.specs.Prelude.{◌≡◌, ◌+◌, ◌<◌, IfNone, IfSome, length, sum_by, nat_lt};
 ghost use Rattle.std.specs.List.{list_all};
-ghost use Rattle.read_schedule.specs.Plans.{are_of, members, plan_fits, plans_fit, plans_in_range, term_fits, wish_fits};
+ghost use Rattle.read_schedule.specs.Plans.{are_of, members, plan_fits, plans_fit};
+ghost use Rattle.read_schedule.specs.Plans.{plans_in_range, term_fits, wish_fits};
 ghost use Rattle.read_schedule.specs.Plans.{term_in_range, terms_in_range};
 ghost use Rattle.read_document.specs.Ranges.{count_in_range};
 ghost use Rattle.read_schedule.specs.Ranges.{steps_in_range};

@@ -13,8 +13,8 @@ use read_document::{DocError, is_kind, read_value};
 use serde_json::Value;
 use std::alloc::Global;
 
-/// The schedule that the bytes stand for, or the first refusal with its first key. It is `read_value` and then `schedule_document`;
-/// the value in between is freed.
+/// The schedule that the bytes stand for, or the first refusal with its first key. It is `read_value` and then
+/// `schedule_document`; the value in between is freed.
 #[tactic(auto, unfolding(crate::specs::Document::schedule_of))]
 pub fn read_schedule(alloc: Global, bytes: &[u8]) -> Result<ScheduleDocument, DocError>
     ensures document { Gives (λ d. d) result (schedule_of bytes.now) }

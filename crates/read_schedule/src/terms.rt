@@ -6,7 +6,8 @@ ghost use Rattle.read_document.specs.Refusals.{field, Gives};
 ghost use Rattle.read_history.specs.Shapes.{all_of, as_list};
 ghost use Rattle.read_document.specs.declared.key.Key.TheVariants.{Terms};
 ghost use Rattle.read_schedule.specs.Shapes.{as_term};
-ghost use Rattle.read_schedule.specs.Terms.{is_titled, several_in, single, single_in, terms_in, terms_there, writes_key};
+ghost use Rattle.read_schedule.specs.Terms.{is_titled, several_in, single, single_in};
+ghost use Rattle.read_schedule.specs.Terms.{terms_in, terms_there, writes_key};
 
 use crate::plans::{are_of, plans_in_range, terms_in_range};
 use history_core::{Band, Items, Wish};

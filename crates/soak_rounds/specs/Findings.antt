@@ -40,15 +40,18 @@ with_write t = record { writes = counted t.writes 1; reads = t.reads; found = t.
 
 -- one more read, of a record of this write, after one of the write `last`. What was found first stays
 abbrev pub with_read : Tally → ℕ → Option ℕ → Tally
-with_read t last number = record { writes = t.writes; reads = counted t.reads 1; found = option_or t.found (wrong_read last number) }
+with_read t last number =
+    record { writes = t.writes; reads = counted t.reads 1; found = option_or t.found (wrong_read last number) }
 
 -- what another counted after this
 abbrev pub with_tally : Tally → Tally → Tally
-with_tally t u = record { writes = counted t.writes u.writes; reads = counted t.reads u.reads; found = option_or t.found u.found }
+with_tally t u =
+    record { writes = counted t.writes u.writes; reads = counted t.reads u.reads; found = option_or t.found u.found }
 
 -- the end of a round that wrote and read up to these numbers
 abbrev pub with_end : Tally → ℕ → ℕ → Tally
-with_end t written read = record { writes = t.writes; reads = t.reads; found = option_or t.found (wrong_end written read) }
+with_end t written read =
+    record { writes = t.writes; reads = t.reads; found = option_or t.found (wrong_end written read) }
 
 -- ---- how a soak ends
 

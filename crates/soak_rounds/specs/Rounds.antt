@@ -8,20 +8,23 @@ use Rattle.soak_rounds.specs.Records.{AreOf, IsWholeRecord}
 
 -- `words` are those of a record
 module _ {X : Type 0} (words : X → List ℕ) where
-  -- records that were written after the write `last`, each with the next number, how they were counted, and the number of the last
+  -- records that were written after the write `last`, each with the next number, how they were
+  -- counted, and the number of the last
   pub data Wrote (last : ℕ) : List X → Tally → ℕ → Type 0 where
     no_write : Wrote last [] no_tally last
     one_write : (xs : List X) (t : Tally) (n : ℕ) (x : X) → Wrote last xs t n → IsWholeRecord (words x) (counted n 1)
         → Wrote last (xs ++ x ∷ []) (with_write t) (counted n 1)
 
-  -- records that were read after one of the write `last`, how they were counted, and the last write of which one was read
+  -- records that were read after one of the write `last`, how they were counted, and the
+  -- last write of which one was read
   pub data NotedReads (last : ℕ) : List X → Tally → ℕ → Type 0 where
     no_read : NotedReads last [] no_tally last
-    one_read : (xs : List X) (t : Tally) (n : ℕ) (x : X) (number : Option ℕ) → NotedReads last xs t n → AreOf (words x) number
-        → NotedReads last (xs ++ x ∷ []) (with_read t n number) (last_read n number)
+    one_read : (xs : List X) (t : Tally) (n : ℕ) (x : X) (number : Option ℕ) → NotedReads last xs t n →
+        AreOf (words x) number → NotedReads last (xs ++ x ∷ []) (with_read t n number) (last_read n number)
 
 -- a list got so many more, of which this holds with what was counted and the last number
-pub record Adds {X : Type 0} (Of : List X → Tally → ℕ → Type 0) (count : ℕ) (old new : List X) (tally : Tally) (last : ℕ) : Type 0 where
+pub record Adds {X : Type 0} (Of : List X → Tally → ℕ → Type 0) (count : ℕ) (old new : List X) (tally : Tally)
+    (last : ℕ) : Type 0 where
   pub added : List X
   pub more : new ≡ old ++ added
   pub all : length added ≡ count
@@ -34,8 +37,9 @@ module _ {X C P G T : Type 0} (words : X → List ℕ) (cells : CellWords C X P 
     pub read : cells.answers h ≡ cells.answers g
     pub told : cells.told h ≡ cells.told g ++ last_or (cells.opening cell) (cells.written p) ∷ []
 
-  -- rounds with two passes of a cell: in each the reader was told of the last write, and then the one wrote so many records and the other
-  -- read so many after that write. What was counted in them, and the last numbers that were written and read
+  -- rounds with two passes of a cell: in each the reader was told of the last write, and then the one wrote
+  -- so many records and the other read so many after that write. What was counted in them, and the last
+  -- numbers that were written and read
   pub data Rounds (cell : C) (put : P) (get : G) : ℕ → P → G → ℕ → ℕ → Tally → Type 0 where
     no_round : Rounds cell put get 0 put get 0 0 no_tally
     one_round : (n : ℕ) (o p q : P) (f g h : G) (w x r s : ℕ) (t a b : Tally) →

@@ -117,7 +117,8 @@ fn reads_of<W: Words>(log: &[Entry<Record<W>>]) -> u64
     log.iter().filter(|entry| is_seen(entry)).count() as u64
 }
 
-/// The writes and reads of the lanes, and the first wrong record. Nothing is found exactly where every record in the logs has its origin.
+/// The writes and reads of the lanes, and the first wrong record. Nothing is found exactly where every
+/// record in the logs has its origin.
 fn look<W: Shared, F: Family<Posted<Record<W>>>>(
     opening: Record<W>,
     lanes: &[Lane<Record<W>, F>],
@@ -153,7 +154,8 @@ pub fn round<R: Threads + Sync, W: Shared + Drop, F: SharedFamily<Posted<Record<
 where
     F::Seat: Send,
     F::Receipt: Send,
-    ensures { IfOk result (λ r. IsRound (λ x. W.listed x.words) ⟦<Record<W> as PartialEq>⟧.eq opening tasks from calls r.0) }
+    ensures { IfOk result
+        (λ r. IsRound (λ x. W.listed x.words) ⟦<Record<W> as PartialEq>⟧.eq opening tasks from calls r.0) }
 {
     let Ok((board, passes)) = Board::<Record<W>, F>::new(alloc, tasks, MAX_LIMIT, opening) else {
         return Err(AllocError);

@@ -1,6 +1,7 @@
 //! What a soak found.
 ghost use Rattle.std.specs.Prelude.{◌≡◌, ℕ};
-ghost use Rattle.soak_rounds.specs.Findings.{exit_of, last_read, no_tally, stop_of, with_end, with_read, with_tally, with_write};
+ghost use Rattle.soak_rounds.specs.Findings.{exit_of, last_read, no_tally, stop_of, with_end};
+ghost use Rattle.soak_rounds.specs.Findings.{with_read, with_tally, with_write};
 ghost use Rattle.soak_rounds.specs.Findings.{wrong_end, wrong_read};
 
 use program_streams::Exit;
@@ -27,7 +28,8 @@ impl fmt::Display for Finding {
     }
 }
 
-/// The writes and reads that were made, and the first wrong record among those read. The counts stand still at their end.
+/// The writes and reads that were made, and the first wrong record among those read. The
+/// counts stand still at their end.
 #[derive(Clone, Copy)]
 pub struct Tally {
     pub writes: u64,
@@ -53,7 +55,8 @@ impl Tally {
         self.writes = self.writes.saturating_add(1);
     }
 
-    /// Counts one more read, of a record of the write `number`, after one of the write `last`. What was found first stays.
+    /// Counts one more read, of a record of the write `number`, after one of the write
+    /// `last`. What was found first stays.
     pub fn note(&mut self, last: u64, number: Option<u64>)
         ensures { self.new ≡ with_read self.old last number }
     {

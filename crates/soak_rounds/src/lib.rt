@@ -1,5 +1,5 @@
-//! Records whose every word tells which write they are of, and rounds of calls on running cells and boards: what is found in them, torn,
-//! older and foreign records, how many calls there were, and how a soak ends.
+//! Records whose every word tells which write they are of, and rounds of calls on running cells and boards: what is
+//! found in them, torn, older and foreign records, how many calls there were, and how a soak ends.
 #![tactic(auto)]
 
 mod boards;

@@ -131,7 +131,8 @@ pub fn at_once<R: Threads + Sync, A: Side + Send, B: Side + Send>(
     requires { A.ready writer.old × B.ready reader.old }
     ensures ready { A.ready writer.new × B.ready reader.new }
     ensures ran { A.ran writer.old writer.new × B.ran reader.old reader.new }
-    ensures tally { result ≡ with_end (with_tally (B.tally reader.new) (A.tally writer.new)) (A.last writer.new) (B.last reader.new) }
+    ensures tally { result ≡ with_end (with_tally (B.tally reader.new) (A.tally writer.new)) (A.last writer.new)
+        (B.last reader.new) }
 {
     join_mut(
         rt,
@@ -151,7 +152,8 @@ pub fn at_once<R: Threads + Sync, A: Side + Send, B: Side + Send>(
     tally
 }
 
-/// Some rounds over a cell of its own. Before each the reader is told of the last write, so that an answer from before it is older.
+/// Some rounds over a cell of its own. Before each the reader is told of the last write, so that an
+/// answer from before it is older.
 pub fn rounds<R: Threads + Sync, W: Shared, C: Cell<Record<W>>>(
     rt: &R,
     alloc: Global,

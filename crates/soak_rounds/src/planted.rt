@@ -1,5 +1,5 @@
-//! A register with a planted bug, which a soak has to find: four slots of words that are written one by one, whose reader skips
-//! its store of `reading`.
+//! A register with a planted bug, which a soak has to find: four slots of words that are written one by one, whose
+//! reader skips its store of `reading`.
 use crate::pair::{Side, at_once};
 use crate::{Tally, last_read};
 use std::alloc::{AllocError, Global};

@@ -115,7 +115,8 @@ where
     join_mut(
         rt,
         &mut ||
-            requires { C.is_put cell.now writing.now.put × ((last_or (C.opening cell.now) (C.written writing.now.put)).0 ≤ 1) }
+            requires { C.is_put cell.now writing.now.put
+                × ((last_or (C.opening cell.now) (C.written writing.now.put)).0 ≤ 1) }
             ensures { C.is_put cell.entry.now writing.exit.now.put }
         { write_in(cell, writing) },
         &mut ||

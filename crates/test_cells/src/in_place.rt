@@ -43,7 +43,8 @@ impl Page {
     }
 }
 
-/// The sums of the opening, of a record written from where it stands, of the same record again, and of one written by value.
+/// The sums of the opening, of a record written from where it stands, of the same record again,
+/// and of one written by value.
 fn sums<C: Cell<Page>>(alloc: Global) -> Result<[u64; 4], AllocError> {
     let (cell, mut put, mut get) = C::make(alloc, Page::counting_from(0))?;
     let opening = cell.read_with(&mut get, |page| page.sum());

@@ -158,7 +158,8 @@ where
     join_mut(
         rt,
         &mut ||
-            requires { C.is_put cell.now writing.now.put × ((last_or (C.opening cell.now) (C.written writing.now.put)).first ≡ 0) }
+            requires { C.is_put cell.now writing.now.put
+                × ((last_or (C.opening cell.now) (C.written writing.now.put)).first ≡ 0) }
             ensures { C.is_put cell.entry.now writing.exit.now.put }
         { write_in(cell, writing, done) },
         &mut ||

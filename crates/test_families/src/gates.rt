@@ -50,8 +50,8 @@ where
     Ok((calls, gate.made()))
 }
 
-/// Looks for permits that are held: none of a task may be out when it asks for its next call, and none at all in the end. A call is counted
-/// with its reply, and no earlier; the tags of all replies are added up.
+/// Looks for permits that are held: none of a task may be out when it asks for its next call, and none at all in the
+/// end. A call is counted with its reply, and no earlier; the tags of all replies are added up.
 #[derive(Drop)]
 struct Held {
     counts: CountingGate,
@@ -182,7 +182,8 @@ struct Asked {
     call: usize,
 }
 
-/// Adds up the numbers that it is asked about and told of: 100 for each task, counted from 0, and the number of the call.
+/// Adds up the numbers that it is asked about and told of: 100 for each task, counted from
+/// 0, and the number of the call.
 #[derive(Drop)]
 struct Numbers {
     asked: AtomicU64,

@@ -1,5 +1,5 @@
-//! Tasks that go on only where all of them run at once: each waits for all others, so a program that runs two of them in one thread
-//! can't pass it.
+//! Tasks that go on only where all of them run at once: each waits for all others, so a program that runs two of them
+//! in one thread can't pass it.
 ghost use Rattle.std.specs.Prelude.{◌≡◌, ℕ, IfOk, map};
 ghost use Rattle.history_core.specs.declared.band.Band.{Band};
 ghost use Rattle.board_tasks.specs.LogOrders.{LogsInOrder};
@@ -13,10 +13,12 @@ use std::alloc::{AllocError, Global};
 use std::sync::atomic::{AtomicBool, AtomicUsize, Ordering};
 use std::thread::{Threads, yield_now};
 
-/// How often a task looks for the others. It lets them run in between, so that tasks also meet where all processors are busy.
+/// How often a task looks for the others. It lets them run in between, so that tasks also meet
+/// where all processors are busy.
 const TURNS: u64 = 5_000_000;
 
-/// Each task is counted before its first call, and goes on where all are there. Where one has looked in vain no other waits.
+/// Each task is counted before its first call, and goes on where all are there. Where one has
+/// looked in vain no other waits.
 #[derive(Drop)]
 struct Meeting {
     tasks: usize,
@@ -75,7 +77,8 @@ fn meet<R: Threads + Sync, F: SharedFamily<Posted<Band>>>(
 where
     F::Seat: Send,
     F::Receipt: Send,
-    ensures ordered { IfOk result (λ r. (opening : Band) × (limit : ℕ) × LogsInOrder opening limit (map (λ v. v.items) r.0.items) r.1) }
+    ensures ordered { IfOk result (λ r. (opening : Band) × (limit : ℕ)
+        × LogsInOrder opening limit (map (λ v. v.items) r.0.items) r.1) }
 {
     let gate = Meeting {
         tasks,
@@ -91,8 +94,8 @@ where
     Ok(ended)
 }
 
-/// Whether so many tasks made both their calls, a write and a read, each record in their logs has its origin, and the last record is one of
-/// the greatest that a task handed on.
+/// Whether so many tasks made both their calls, a write and a read, each record in their logs has its origin, and the
+/// last record is one of the greatest that a task handed on.
 fn met<R: Threads + Sync, F: SharedFamily<Posted<Band>>>(
     rt: &R,
     alloc: Global,

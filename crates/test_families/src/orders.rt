@@ -38,8 +38,8 @@ fn plan(alloc: Global) -> Result<Vec<u64>, AllocError> {
     Ok(plan)
 }
 
-/// Runs three tasks, which write and read in turn, until long after the tags have ended: the greatest tag of the last entries is the
-/// limit, and so is that of the last record.
+/// Runs three tasks, which write and read in turn, until long after the tags have ended: the greatest tag of the last
+/// entries is the limit, and so is that of the last record.
 pub fn wears_out<R: Threads + Sync, F: SharedFamily<Posted<Band>>>(
     rt: &R,
     alloc: Global,
@@ -64,7 +64,8 @@ where
     Ok(lawful & (greatest == LIMIT) & (last.stamp.tag == LIMIT))
 }
 
-/// What two tasks left behind: how long their logs are, whether each record in them has its origin, and the last record.
+/// What two tasks left behind: how long their logs are, whether each record in them has its
+/// origin, and the last record.
 type Left = ([usize; 2], Origin, Posted<Band>);
 
 fn left_by_two<R: Threads + Sync, F: SharedFamily<Posted<Band>>>(

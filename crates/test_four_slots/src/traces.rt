@@ -7,8 +7,8 @@ use history_core::{Band, Op};
 mod limits;
 mod worked;
 
-/// The steps of a text of the letters `w` and `r`, each write with this item, and what the cell shows after them: the last
-/// answer of these steps; `latest`, `reading` and the two bits of `slot`; the writer's slot and the reader's.
+/// The steps of a text of the letters `w` and `r`, each write with this item, and what the cell shows after them: the
+/// last answer of these steps; `latest`, `reading` and the two bits of `slot`; the writer's slot and the reader's.
 #[derive(Clone, Copy)]
 struct Shown {
     item: u64,
@@ -188,7 +188,8 @@ fn traces(rt: HostRuntime) {
     }
 }
 
-/// The steps of a reader that stands just after R3 with slot 3, to which the first write goes, its answer, and the events.
+/// The steps of a reader that stands just after R3 with slot 3, to which the first write
+/// goes, its answer, and the events.
 const MET: &[(&str, u64, &str)] = &[
     ("wwrr", 987, "W1 W2 R4 R5"),
     ("rwwwr", 987, "R4 W1 W2 W3 R5"),

@@ -53,7 +53,8 @@ fn told<F: Family<Posted<Band>>>(alloc: Global) -> Result<[Given; 4], BoardError
     ])
 }
 
-/// A board of 16 processes that opens with this record. Where the first request for it is refused it is tried twice, if that is said.
+/// A board of 16 processes that opens with this record. Where the first request for it is refused it is
+/// tried twice, if that is said.
 fn next_board<F: Family<Posted<Band>>>(
     alloc: Global,
     last: Posted<Band>,
@@ -83,7 +84,8 @@ fn renewed<F: Family<Posted<Band>>>(alloc: Global, twice: bool) -> Result<[Given
     ])
 }
 
-/// A board on which a process wrote, one more board that is made or isn't, and then what another process reads of the first.
+/// A board on which a process wrote, one more board that is made or isn't, and then what
+/// another process reads of the first.
 fn beside<F: Family<Posted<Band>>>(alloc: Global) -> Result<[Given; 2], BoardError> {
     let mut team = Team::<F>::new(alloc, 2, 9, OPENING)?;
     let first = team.write(0, A);
@@ -92,8 +94,8 @@ fn beside<F: Family<Posted<Band>>>(alloc: Global) -> Result<[Given; 2], BoardErr
     Ok([first, team.read(1)])
 }
 
-/// On a board of so many processes the first one writes and tells, the last one learns and reads, and the board ends: whether it was
-/// written, what was read, and the last record.
+/// On a board of so many processes the first one writes and tells, the last one learns and reads, and the board ends:
+/// whether it was written, what was read, and the last record.
 fn shared<F: Family<Posted<Band>>>(
     alloc: Global,
     n: usize,

@@ -18,7 +18,8 @@ const CELL: &str =
 
 /// Two writes while a reader stands in its slot.
 const STALLED: &str =
-    r#"{"kind":"cell","opening":[0,0,0],"noise":[9,8,7],"writes":[[1,1,1],[2,2,2],[3,3,3]],"reads":2,"steps":"wwwwwrrrrwwwwwwwwwwrrrrrr"}"#;
+    r#"{"kind":"cell","opening":[0,0,0],"noise":[9,8,7],"writes":[[1,1,1],[2,2,2],[3,3,3]],
+        "reads":2,"steps":"wwwwwrrrrwwwwwwwwwwrrrrrr"}"#;
 
 /// Two writes that meet, and then a read.
 const MEETING: &str =
@@ -26,7 +27,8 @@ const MEETING: &str =
 
 /// A write that reached one process of three, and two reads that hand it on.
 const HANDED_ON: &str =
-    r#"{"kind":"matrix","opening":[0,0,0],"limit":9,"plans":[[[1,1,1]],["read"],["read"]],"steps":[0,0,0,1,1,1,1,2,2,2,2]}"#;
+    r#"{"kind":"matrix","opening":[0,0,0],"limit":9,"plans":[[[1,1,1]],["read"],["read"]],
+        "steps":[0,0,0,1,1,1,1,2,2,2,2]}"#;
 
 /// A write after the last tag.
 const REFUSED: &str =

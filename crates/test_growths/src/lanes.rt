@@ -1,5 +1,5 @@
-//! Lanes of a running board. A lane that is refused gives its pass back, and where no thread can be had the tasks run one after the
-//! other: every log is whole, and every pass may be used on.
+//! Lanes of a running board. A lane that is refused gives its pass back, and where no thread can be had the tasks run
+//! one after the other: every log is whole, and every pass may be used on.
 ghost use Rattle.std.specs.Prelude.{◌≡◌, All, IfOk, length};
 ghost use Rattle.history_core.specs.Band.{fits};
 ghost use Rattle.board_live.specs.Passes.{IsPass};

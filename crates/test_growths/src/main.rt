@@ -1,5 +1,5 @@
-//! Makes one call that takes memory and prints its answer, or `out of memory`. The words name the call and what it is made
-//! on. The tests run it again and again, with each of its requests for memory refused in turn.
+//! Makes one call that takes memory and prints its answer, or `out of memory`. The words name the call and what it is
+//! made on. The tests run it again and again, with each of its requests for memory refused in turn.
 #![tactic(auto)]
 
 mod boards;

@@ -33,7 +33,8 @@ impl Stepped {
         };
     }
 
-    /// Prints the four bits, the last event and the slot of the writer and those of the reader, and the slots that they are in.
+    /// Prints the four bits, the last event and the slot of the writer and those of the reader,
+    /// and the slots that they are in.
     fn show(&self, rt: &impl Print) -> io::Result<()> {
         let bits = self.core.bits();
         let [zero, one] = bits.slot;
@@ -46,7 +47,8 @@ impl Stepped {
     }
 }
 
-/// Steps a new cell by each schedule, which has a letter `w` or `r` for each step and ends with a dot, and prints a line of each.
+/// Steps a new cell by each schedule, which has a letter `w` or `r` for each step and ends with a
+/// dot, and prints a line of each.
 pub fn step(rt: &impl Print, schedules: &str) -> io::Result<()> {
     let mut cell = Stepped::new();
     for letter in schedules.as_bytes() {

@@ -1,4 +1,5 @@
-//! One document and one text of each kind that no run of `fsr` shows. `tests/programs/refusals.sh` tries each refusal at its bounds.
+//! One document and one text of each kind that no run of `fsr` shows. `tests/programs/refusals.sh`
+//! tries each refusal at its bounds.
 
 mod reading;
 mod telling;

@@ -1,4 +1,5 @@
-//! Worked orders and logs, with what the check and the search say of them, and documents and printed texts: what no run of `fsr` shows.
+//! Worked orders and logs, with what the check and the search say of them, and documents and printed
+//! texts: what no run of `fsr` shows.
 #![tactic(auto)]
 
 #[cfg(test)]

@@ -1,4 +1,5 @@
-//! Worked rows of matrices and boards: what they share. The expected intervals, stamps, slots, answers and orders are those of the rows.
+//! Worked rows of matrices and boards: what they share. The expected intervals, stamps, slots, answers and
+//! orders are those of the rows.
 
 ghost use Rattle.std.specs.Prelude.{◌≡◌, ◌<◌, IsTrue};
 ghost use Rattle.matrix_core.specs.Runs.{CanPlay, IsTerm, step_count};
@@ -60,7 +61,8 @@ pub(crate) const C: Band = Band {
     hi: 3,
 };
 
-/// A term of a row: its limit, what each process is to do, and the steps: how many of which process, one after the other.
+/// A term of a row: its limit, what each process is to do, and the steps: how many of which
+/// process, one after the other.
 #[derive(Clone, Copy)]
 pub(crate) struct Planned {
     pub(crate) limit: u64,

@@ -12,10 +12,12 @@ fn orders_are_lawful(rt: HostRuntime) -> Result<(), Fail> {
             "steps":[0,0,0,0,0,0,0,0,0,0,1,1,1,1,1,1,1,1,1,1]}"#,
         r#"{"kind":"board","opening":[0,0,0],"noise":[9,8,7],"limit":9,"plans":[[[1,1,1]],["read"]],
             "steps":[0,0,0,0,0,0,0,0,0,1,1,1,1,1,1,1,1,1,1]}"#,
-        r#"{"kind":"board","opening":[0,0,0],"noise":[9,8,7],"limit":9,"plans":[[[1,1,1]],["read"]],"steps":[0,0,0,0]}"#,
+        r#"{"kind":"board","opening":[0,0,0],"noise":[9,8,7],"limit":9,"plans":[[[1,1,1]],["read"]],
+            "steps":[0,0,0,0]}"#,
         r#"{"kind":"board","opening":[0,0,0],"noise":[9,8,7],"terms":[
             {"limit":1,"plans":[[[1,1,1]],[]],"steps":[0,0,0,0,0,0,0,0,0,0]},
-            {"limit":1,"plans":[["read",[3,3,3]],[[2,2,2]]],"steps":[1,1,1,1,1,1,1,1,1,1,0,0,0,0,0,0,0,0,0,0,0,0,0,0,0,0,0,0,0,0]}]}"#,
+            {"limit":1,"plans":[["read",[3,3,3]],[[2,2,2]]],
+             "steps":[1,1,1,1,1,1,1,1,1,1,0,0,0,0,0,0,0,0,0,0,0,0,0,0,0,0,0,0,0,0]}]}"#,
     ] {
         match read_schedule(rt.alloc(), document.as_bytes())? {
             ScheduleDocument::Board {

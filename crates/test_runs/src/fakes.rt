@@ -2,8 +2,8 @@ use std::alloc::Global;
 use std::io;
 use std::io::ErrorKind;
 
-/// A reader that gives its bytes, `most` of them a call. In place of the byte number `fails_at` it is interrupted once, and would go on
-/// after it.
+/// A reader that gives its bytes, `most` of them a call. In place of the byte number `fails_at` it is interrupted
+/// once, and would go on after it.
 #[derive(Drop)]
 pub struct Pieces<'a> {
     bytes: &'a [u8],

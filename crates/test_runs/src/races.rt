@@ -38,8 +38,8 @@ fn tells<R: Threads + Sync, G: Gate + Sync>(
     Ok(told.as_slice() == text.as_bytes())
 }
 
-/// Each task raises its flag before its first call, and goes on where it sees the other's. With one thread none does. A task that
-/// looks in vain lets others run, so that two tasks also meet where all processors are busy.
+/// Each task raises its flag before its first call, and goes on where it sees the other's. With one thread none does. A
+/// task that looks in vain lets others run, so that two tasks also meet where all processors are busy.
 #[derive(Drop)]
 struct Meeting {
     first: AtomicBool,

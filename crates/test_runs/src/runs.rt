@@ -43,8 +43,10 @@ fn run<'a, R: Threads + Sync, I: Source, O: Sink, E: Sink>(
 const AMPLE: usize = 2_000_000;
 
 /// A write and a read of its record, in the order in which they are lawful.
-const ROW: &str =
-    "{\"kind\":\"check\",\"opening\":[0,0,0],\"limit\":9,\"ops\":[\n {\"who\":0,\"kind\":\"write\",\"begin\":0,\"end\":4,\"record\":[1,1,1]},\n {\"who\":1,\"kind\":\"read\",\"begin\":5,\"end\":9,\"record\":[1,1,1]}],\n \"order\":[0,1]}";
+const ROW: &str = r#"{"kind":"check","opening":[0,0,0],"limit":9,"ops":[
+ {"who":0,"kind":"write","begin":0,"end":4,"record":[1,1,1]},
+ {"who":1,"kind":"read","begin":5,"end":9,"record":[1,1,1]}],
+ "order":[0,1]}"#;
 
 const ALL: usize = ROW.len();
 
@@ -52,15 +54,15 @@ const READ_FAILED: &str = "fsr: read failed\n";
 
 const WRITE_FAILED: &str = "fsr: write failed\n";
 
-/// The most bytes of a read, in place of which byte reading is interrupted, the room of the output and of standard error, and what a full
-/// one of these does.
+/// The most bytes of a read, in place of which byte reading is interrupted, the room of the output and of standard
+/// error, and what a full one of these does.
 type Streams = (usize, usize, usize, usize, Full);
 
 /// The status, how many bytes are read, the text, and the fault.
 type Ends = (u8, usize, &'static str, &'static str);
 
-/// Sees how a run with these words ends. With status 5 one call of the input or the output has failed, and where standard error is short
-/// of room one of its calls has. No stream is used after its first failure.
+/// Sees how a run with these words ends. With status 5 one call of the input or the output has failed, and where
+/// standard error is short of room one of its calls has. No stream is used after its first failure.
 fn sees<R: Abort + Threads + Sync>(
     rt: &R,
     alloc: Global,
@@ -135,8 +137,8 @@ fn padded(alloc: Global, length: usize) -> Result<Vec<u8>, AllocError> {
     Ok(bytes)
 }
 
-/// A failure of the fault lines' writer changes no status. Where the words are refused nothing is read, and a document is read to one
-/// byte more than the longest, also where more comes.
+/// A failure of the fault lines' writer changes no status. Where the words are refused nothing is read, and a document
+/// is read to one byte more than the longest, also where more comes.
 #[test]
 fn a_full_standard_error_changes_no_status(rt: HostRuntime) -> Result<(), Fail> {
     let long = padded(rt.alloc(), 1_100_000)?;

@@ -83,8 +83,8 @@ module _ {V : Type 0} (equal : V → V → Bool) where
   pub sound : SoundLogsShow equal
   sound opening logs t j log e h at there = (h.0 t j log e at there, h.1 t j log e at there)
 
-  pub breaks : (rule : ℕ → Stamp → Entry V → Bool) (logs : List (List (Entry V))) (task call : ℕ) → IsFirstBrokenOrigin rule logs task call →
-      BreaksFirst equal rule logs task call
+  pub breaks : (rule : ℕ → Stamp → Entry V → Bool) (logs : List (List (Entry V))) (task call : ℕ) →
+      IsFirstBrokenOrigin rule logs task call → BreaksFirst equal rule logs task call
   breaks rule logs task call h = record {
     log = h.log;
     place = h.place;

@@ -34,7 +34,8 @@ triple_makes p g w made = (
   made.unknown.1,
 )
 
-module _ {D E P G W : Type 0} (codes : ℕ × ℕ) (writes : P → D) (reads : G → E) (is_made : P → G → W → Type 0) (w w' : Holding D) (r r' : Holding E) (first : W) where
+module _ {D E P G W : Type 0} (codes : ℕ × ℕ) (writes : P → D) (reads : G → E) (is_made : P → G → W → Type 0) (w w' : Holding D)
+    (r r' : Holding E) (first : W) where
   make_done : (n : ℕ) → n ≡ 0 → IsMake codes writes reads is_made w r w' r' first n → (p : P) × (g : G) × (w.live ≡ 0) × (r.live ≡ 0)
       × (w'.live ≡ codes.0) × (w'.side ≡ writes p) × (r'.live ≡ codes.1) × (r'.side ≡ reads g) × is_made p g first
   make_done n e (handles.done p g gone none put got made) = (p, g, gone, none, put.0, put.1, got.0, got.1, made)

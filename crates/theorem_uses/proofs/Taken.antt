@@ -34,7 +34,8 @@ triple_reads g h a read = (
   read.written,
 )
 
-module _ {D G W : Type 0} (code : ℕ) (reads : G → D) (h k : Holding D) (has_read : G → G → Numbered W → Type 0) (item item' : W) (number number' : ℕ) where
+module _ {D G W : Type 0} (code : ℕ) (reads : G → D) (h k : Holding D) (has_read : G → G → Numbered W → Type 0) (item item' : W)
+    (number number' : ℕ) where
   abbrev Was : ℕ → Type 0
   Was n = IsRead code reads has_read h k item item' number number' n
 

@@ -9,7 +9,8 @@ use Rattle.history_core.specs.Searches.{IsAnswered, IsFault}
 use Rattle.cell_contract.specs.declared.cell.Calls.{Ghosts as CellWords}
 use Rattle.cell_contract.specs.declared.family.Family.{Ghosts as FamilyWords}
 use Rattle.board_live.specs.declared.record.Posted.{Posted}
-use Rattle.theorem_uses.specs.Products.{BoardCalls, BoardCallStands, BoardShows, CellHeeds, CellIsEnded, CellReads, CellWrites, GreatestIsThere}
+use Rattle.theorem_uses.specs.Products.{BoardCalls, BoardCallStands, BoardShows, CellHeeds, CellIsEnded}
+use Rattle.theorem_uses.specs.Products.{CellReads, CellWrites, GreatestIsThere}
 use Rattle.theorem_uses.specs.Products.{SearchMissesNone, VerdictIsExact, WritesChoose}
 
 not_below : (s : Stamp) → IsBelow s s → ⊥

@@ -1,7 +1,8 @@
 -- Consequences of a write through C, by its status (this project's own).
 use Rattle.std.specs.Prelude.{◌≡◌, ◌≢◌, ℕ, ◌+◌, ◌≤◌, ◌^◌, List, [], ◌∷◌, ◌++◌}
 use Rattle.cell_contract.specs.Intervals.{IsNextCall}
-use Rattle.cell_four_slot.specs.Words.{cell_name, get_notes, is_get_of, is_put_of, opening_of, pair_shown, put_notes, put_times}
+use Rattle.cell_four_slot.specs.Words.{cell_name, get_notes, is_get_of, is_put_of, opening_of}
+use Rattle.cell_four_slot.specs.Words.{pair_shown, put_notes, put_times}
 use Rattle.cell_four_slot.specs.Words.{writer_accesses}
 use Rattle.cell_four_slot.specs.Words.{written_by}
 use Rattle.cell_four_slot.specs.declared.cell.FourSlotCell.{FourSlotCell}
@@ -16,7 +17,8 @@ module _ (D W : Type 0) where
   -- with status 0 the handle had a side of the cell and has it after the write; with any other it is what it was
   abbrev pub StatusesShow : Type 0
   StatusesShow = (code : ℕ) (writes : FourSlotWriter W → D) (last : FourSlotWriter W → ℕ) (h k : Holding D) (item : W) →
-      (IsWrite code writes last HasWritten h k item 0 → (p : FourSlotWriter W) × (q : FourSlotWriter W) × (h.live ≡ code)
+      (IsWrite code writes last HasWritten h k item 0 →
+      (p : FourSlotWriter W) × (q : FourSlotWriter W) × (h.live ≡ code)
       × (h.side ≡ writes p) × (k.live ≡ code) × (k.side ≡ writes q) × HasWritten p q item)
       × (IsWrite code writes last HasWritten h k item 3 → (h.live ≡ 0) × (k ≡ h))
       × (IsWrite code writes last HasWritten h k item 4 → (p : FourSlotWriter W) × (h.live ≡ code) × (h.side ≡ writes p)

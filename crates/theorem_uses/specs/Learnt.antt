@@ -14,14 +14,15 @@ module _ {V F S T : Type 0} (words : FamilyWords F (Posted V) S T) where
   -- a receipt is of the board, and names one record of a process of it, of each register of this process
   abbrev pub ReceiptsShow : Type 0
   ReceiptsShow = (board : Board V F S T) (receipt : Receipt V F S T) → IsReceipt words board receipt →
-      words.is_receipt board.family receipt.told × (words.sender receipt.told ≡ receipt.from) × (receipt.from < board.processes)
+      words.is_receipt board.family receipt.told × (words.sender receipt.told ≡ receipt.from)
+      × (receipt.from < board.processes)
       × ((j : ℕ) → j < board.processes → j ≢ receipt.from → words.named receipt.told j ≡ receipt.item)
 
   -- a receipt that was made names its sender's own record, and has its time and its writes
   abbrev pub ToldShow : Type 0
-  ToldShow = (board : Board V F S T) (old new : Pass V F S T) (receipt : Receipt V F S T) → HasTold words board old new receipt →
-      IsReceipt words board receipt × (receipt.from ≡ old.process) × (receipt.item ≡ old.own)
-      × (words.time_of receipt.told ≡ words.clock old.seat)
+  ToldShow = (board : Board V F S T) (old new : Pass V F S T) (receipt : Receipt V F S T) →
+      HasTold words board old new receipt → IsReceipt words board receipt × (receipt.from ≡ old.process)
+      × (receipt.item ≡ old.own) × (words.time_of receipt.told ≡ words.clock old.seat)
       × ((j : ℕ) → j < board.processes → j ≢ old.process →
       words.writes_of receipt.told j ≡ known_as (words.writes old.seat j).items (words.writes old.seat j).times)
       × ((j : ℕ) → words.reads new.seat j ≡ words.reads old.seat j)
@@ -33,10 +34,11 @@ module _ {V F S T : Type 0} (words : FamilyWords F (Posted V) S T) where
       × (words.time_of again.told ≡ words.time_of receipt.told)
       × ((j : ℕ) → words.writes_of again.told j ≡ words.writes_of receipt.told j)
 
-  -- a process that has learnt a receipt of another one knows of its time, its record and its writes, and has read nothing
+  -- a process that has learnt a receipt of another one knows of its time, its record and its
+  -- writes, and has read nothing
   abbrev pub LearntShow : Type 0
-  LearntShow = (old new : Pass V F S T) (receipt : Receipt V F S T) → HasLearnt words old new receipt → receipt.from ≢ old.process →
-      (words.time_of receipt.told ≤ words.clock new.seat)
+  LearntShow = (old new : Pass V F S T) (receipt : Receipt V F S T) → HasLearnt words old new receipt →
+      receipt.from ≢ old.process → (words.time_of receipt.told ≤ words.clock new.seat)
       × ((words.reads new.seat receipt.from).told ≡ (words.reads old.seat receipt.from).told ++ receipt.item ∷ [])
       × ((words.reads new.seat receipt.from).heard
       ≡ (words.reads old.seat receipt.from).heard ++ words.writes_of receipt.told old.process ∷ [])

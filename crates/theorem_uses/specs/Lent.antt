@@ -32,6 +32,7 @@ module _ (D W : Type 0) where
   abbrev pub FillingsShow : Type 0
   FillingsShow = (code : ℕ) (writes : TripleWriter W → D) (last : TripleWriter W → ℕ) (h k l : Holding D) (w : W) →
       ((p q : TripleWriter W) → writes p ≡ writes q → p ≡ q) → IsSlotFilled code writes writer_with h k w →
-      IsPublish code writes last HasPublished k l 0 → (p : TripleWriter W) × (q : TripleWriter W) × (h.live ≡ code) × (h.side ≡ writes p)
+      IsPublish code writes last HasPublished k l 0 →
+      (p : TripleWriter W) × (q : TripleWriter W) × (h.live ≡ code) × (h.side ≡ writes p)
       × (k.live ≡ h.live) × (l.side ≡ writes q) × (q.room.inner.cell ≡ p.room.inner.cell) × (q.number ≡ p.number + 1)
       × (written_by q.room.inner.put ≡ written_by p.room.inner.put ++ numbered (p.number + 1) w ∷ [])

@@ -18,7 +18,8 @@ module _ (W : Type 0) where
   abbrev pub FourSlotMakesShow : Type 0
   FourSlotMakesShow = (p : FourSlotWriter W) (g : FourSlotReader W) (w : W) → four_slot.IsMade p g w →
       (arc_value p.cell ≡ arc_value g.cell) × (four.opening_of (arc_value g.cell) ≡ numbered 0 w)
-      × (four.written_by p.put ≡ []) × (four.answers_of g.get ≡ []) × (four.told_to g.get ≡ []) × (four.put_times p.put ≡ no_times)
+      × (four.written_by p.put ≡ []) × (four.answers_of g.get ≡ []) × (four.told_to g.get ≡ [])
+      × (four.put_times p.put ≡ no_times)
       × (four.get_times g.get ≡ no_times) × (four.numbers_of g.get ≡ []) × (four.known_to g.get ≡ none_known)
 
   abbrev pub TripleMakesShow : Type 0
@@ -32,12 +33,16 @@ module _ (W : Type 0) where
 module _ (D E W : Type 0) where
   -- with status 0 both handles were empty, and have the two sides; with any other they are what they were
   abbrev pub MakeStatusesShow : Type 0
-  MakeStatusesShow = (c d : ℕ) (writes : FourSlotWriter W → D) (reads : FourSlotReader W → E) (w w' : Holding D) (r r' : Holding E)
-      (first : W) →
-      (IsMake (c, d) writes reads four_slot.IsMade w r w' r' first 0 → (p : FourSlotWriter W) × (g : FourSlotReader W) × (w.live ≡ 0)
-      × (r.live ≡ 0) × (w'.live ≡ c) × (w'.side ≡ writes p) × (r'.live ≡ d) × (r'.side ≡ reads g) × four_slot.IsMade p g first)
-      × (IsMake (c, d) writes reads four_slot.IsMade w r w' r' first 1 → (w.live ≡ 0) × (r.live ≡ 0) × (w' ≡ w) × (r' ≡ r))
-      × (IsMake (c, d) writes reads four_slot.IsMade w r w' r' first 2 → ((w.live ≢ 0) ⊎ (r.live ≢ 0)) × (w' ≡ w) × (r' ≡ r))
+  MakeStatusesShow = (c d : ℕ) (writes : FourSlotWriter W → D) (reads : FourSlotReader W → E) (w w' : Holding D)
+      (r r' : Holding E) (first : W) →
+      (IsMake (c, d) writes reads four_slot.IsMade w r w' r' first 0 →
+      (p : FourSlotWriter W) × (g : FourSlotReader W) × (w.live ≡ 0)
+      × (r.live ≡ 0) × (w'.live ≡ c) × (w'.side ≡ writes p) × (r'.live ≡ d) × (r'.side ≡ reads g)
+      × four_slot.IsMade p g first)
+      × (IsMake (c, d) writes reads four_slot.IsMade w r w' r' first 1 →
+      (w.live ≡ 0) × (r.live ≡ 0) × (w' ≡ w) × (r' ≡ r))
+      × (IsMake (c, d) writes reads four_slot.IsMade w r w' r' first 2 →
+      ((w.live ≢ 0) ⊎ (r.live ≢ 0)) × (w' ≡ w) × (r' ≡ r))
 
 module _ (D : Type 0) where
   -- with status 0 the handle had such a side and has none; with any other it is what it was

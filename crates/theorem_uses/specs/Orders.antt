@@ -4,7 +4,8 @@ use Rattle.history_core.specs.declared.history.Op.{Op}
 use Rattle.history_core.specs.declared.history.Kind.TheVariants.{Write, Read, Refused}
 use Rattle.history_core.specs.declared.history.Term.{Term}
 use Rattle.history_core.specs.declared.history.Verdict.TheVariants.{Lawful, Listing, Precedence, Reading, Limit}
-use Rattle.history_core.specs.Orders.{IsAtomicOrder, IsListing, IsVerdict, KeepsPrecedence, latest, ReadsLatest, RefusesLawfully}
+use Rattle.history_core.specs.Orders.{IsAtomicOrder, IsListing, IsVerdict, KeepsPrecedence, latest}
+use Rattle.history_core.specs.Orders.{ReadsLatest, RefusesLawfully}
 
 -- the operation at this place is the only write
 abbrev pub IsOnlyWrite : {R : Type 0} → List (Op R) → ℕ → Type 0
@@ -20,14 +21,15 @@ module _ (R : Type 0) where
 
   -- an entry of the order is an operation, and one that didn't end is a write
   abbrev pub ListsNothingElse : Type 0
-  ListsNothingElse = (opening : R) (ops : List (Op R)) (order : List ℕ) (i p : ℕ) → IsAtomicOrder (λ x y. x ≡ y) opening ops order →
+  ListsNothingElse = (opening : R) (ops : List (Op R)) (order : List ℕ) (i p : ℕ) →
+      IsAtomicOrder (λ x y. x ≡ y) opening ops order →
       slice_get order i ≡ Some p → (op : Op R) × (slice_get ops p ≡ Some op) × (op.ends ≡ None → op.kind ≡ Write)
 
   -- an operation that ended before another one began stands before it
   abbrev pub KeepsIntervals : Type 0
   KeepsIntervals = (opening : R) (ops : List (Op R)) (order : List ℕ) (i j p q end : ℕ) (a b : Op R) →
-      IsAtomicOrder (λ x y. x ≡ y) opening ops order → slice_get order i ≡ Some p → slice_get order j ≡ Some q → slice_get ops p ≡ Some a →
-      slice_get ops q ≡ Some b → p ≢ q → a.ends ≡ Some end → end < b.starts → i < j
+      IsAtomicOrder (λ x y. x ≡ y) opening ops order → slice_get order i ≡ Some p → slice_get order j ≡ Some q →
+      slice_get ops p ≡ Some a → slice_get ops q ≡ Some b → p ≢ q → a.ends ≡ Some end → end < b.starts → i < j
 
   -- a read has the record that is there
   abbrev pub HasWhatIsThere : Type 0
@@ -39,22 +41,23 @@ module _ (R : Type 0) where
   -- the only write had ended before the read began, and the read has another record: no order is atomic
   abbrev pub StaleIsAbsurd : Type 0
   StaleIsAbsurd = (opening : R) (ops : List (Op R)) (order : List ℕ) (p q end fin : ℕ) (write read : Op R) (stale : R) →
-      slice_get ops p ≡ Some write → slice_get ops q ≡ Some read → write.kind ≡ Write → read.kind ≡ Read → IsOnlyWrite ops p →
-      write.ends ≡ Some end → end < read.starts → read.ends ≡ Some fin → read.item ≡ Some stale → write.item ≢ Some stale →
-      IsAtomicOrder (λ x y. x ≡ y) opening ops order → ⊥
+      slice_get ops p ≡ Some write → slice_get ops q ≡ Some read → write.kind ≡ Write → read.kind ≡ Read →
+      IsOnlyWrite ops p → write.ends ≡ Some end → end < read.starts → read.ends ≡ Some fin → read.item ≡ Some stale →
+      write.item ≢ Some stale → IsAtomicOrder (λ x y. x ≡ y) opening ops order → ⊥
 
   -- nothing is written, so no refused write stands in the order
   abbrev pub WaitsForTheLimit : Type 0
   WaitsForTheLimit = (limit : ℕ) (ops : List (Op R)) (order : List ℕ) (i p : ℕ) (op : Op R) → 0 < limit →
       RefusesLawfully (record { first = 0; limit = limit } ∷ []) ops order →
-      ((q : ℕ) (o : Op R) → slice_get ops q ≡ Some o → o.kind ≢ Write) → slice_get order i ≡ Some p → slice_get ops p ≡ Some op →
-      op.kind ≢ Refused
+      ((q : ℕ) (o : Op R) → slice_get ops q ≡ Some o → o.kind ≢ Write) → slice_get order i ≡ Some p →
+      slice_get ops p ≡ Some op → op.kind ≢ Refused
 
   -- an unfinished write stands at one place at most
   abbrev pub StandsOnceAtMost : Type 0
   StandsOnceAtMost = (opening : R) (ops : List (Op R)) (order : List ℕ) (p i j : ℕ) (op : Op R) →
       IsAtomicOrder (λ x y. x ≡ y) opening ops order →
-      slice_get ops p ≡ Some op → op.ends ≡ None → op.kind ≡ Write → slice_get order i ≡ Some p → slice_get order j ≡ Some p → j ≡ i
+      slice_get ops p ≡ Some op → op.ends ≡ None → op.kind ≡ Write → slice_get order i ≡ Some p →
+      slice_get order j ≡ Some p → j ≡ i
 
   -- a refused write saw the record that is there, and a write has one
   abbrev pub SawWhatIsThere : Type 0
@@ -68,7 +71,8 @@ module _ (R : Type 0) where
   abbrev pub VerdictsShow : Type 0
   VerdictsShow = (opening : R) (terms : List Term) (ops : List (Op R)) (order : List ℕ) →
       (IsVerdict (λ x y. x ≡ y) opening terms ops order Listing → IsListing ops order → ⊥)
-      × (IsVerdict (λ x y. x ≡ y) opening terms ops order Precedence → IsListing ops order × (KeepsPrecedence ops order → ⊥))
+      × (IsVerdict (λ x y. x ≡ y) opening terms ops order Precedence →
+      IsListing ops order × (KeepsPrecedence ops order → ⊥))
       × (IsVerdict (λ x y. x ≡ y) opening terms ops order Reading →
       IsListing ops order × KeepsPrecedence ops order × (ReadsLatest (λ x y. x ≡ y) opening ops order → ⊥))
       × (IsVerdict (λ x y. x ≡ y) opening terms ops order Limit →

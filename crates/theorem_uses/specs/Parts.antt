@@ -1,5 +1,6 @@
 -- Consequences of accesses of a family, of orders by number and of the counts of atomic calls (this project's own).
-use Rattle.std.specs.Prelude.{◌≡◌, ◌⊎◌, Bool, IsTrue, ℕ, ◌+◌, ◌<◌, ◌≤◌, false, List, [], ◌∷◌, ◌++◌, length, slice_get, Option, Some, None}
+use Rattle.std.specs.Prelude.{◌≡◌, ◌⊎◌, Bool, IsTrue, ℕ, ◌+◌, ◌<◌, ◌≤◌, false, List, [], ◌∷◌, ◌++◌, length}
+use Rattle.std.specs.Prelude.{slice_get, Option, Some, None}
 use Rattle.history_core.specs.declared.history.Op.{Op}
 use Rattle.history_core.specs.declared.history.Kind.TheVariants.{Write, Read, Refused}
 use Rattle.history_core.specs.declared.wish.Wish.TheVariants.{Write as WriteWish, Read as ReadWish}
@@ -20,7 +21,8 @@ use Rattle.board_live.specs.declared.record.Posted.{Posted}
 use Rattle.board_live.specs.Passes.{IsFurtherAnswer, IsMindful}
 
 module _ (T : Type 0) where
-  -- a read adds its answer and a number, and no receipt; the number is no less than that of the last write of each that was learnt
+  -- a read adds its answer and a number, and no receipt; the number is no less than that of the last
+  -- write of each that was learnt
   abbrev pub ReadsShow : Type 0
   ReadsShow = (opening : T) (old new : ReadAccesses T) (answer : T) → IsReadAccess opening old new answer →
       (new.answers ≡ old.answers ++ answer ∷ []) × (new.told ≡ old.told) × (new.heard ≡ old.heard)
@@ -37,14 +39,14 @@ module _ (T : Type 0) where
       ((i p : ℕ) → slice_get order i ≡ Some p → p < length ops)
       × ((i j p : ℕ) → slice_get order i ≡ Some p → slice_get order j ≡ Some p → i ≡ j)
       × ((p : ℕ) → p < length ops → (i : ℕ) × (slice_get order i ≡ Some p))
-      × ((i j p q : ℕ) (a b : Op T) → slice_get order i ≡ Some p → slice_get ops p ≡ Some a → slice_get order j ≡ Some q →
-      slice_get ops q ≡ Some b → i < j → number q ≤ number p →
+      × ((i j p q : ℕ) (a b : Op T) → slice_get order i ≡ Some p → slice_get ops p ≡ Some a →
+      slice_get order j ≡ Some q → slice_get ops q ≡ Some b → i < j → number q ≤ number p →
       (number p ≡ number q) × (is_write b.kind ≡ false) × (is_write a.kind ≡ false → a.starts ≤ b.starts))
 
   -- an operation of the history is a write with its number and record, or a read with those of its answer
   abbrev pub OpsShow : Type 0
-  OpsShow = (written answers : List T) (writes reads : Times) (numbers : List ℕ) (ops : List (Op T)) (number : ℕ → ℕ) (p : ℕ) (op : Op T) →
-      AreOps written writes answers numbers reads ops number → slice_get ops p ≡ Some op →
+  OpsShow = (written answers : List T) (writes reads : Times) (numbers : List ℕ) (ops : List (Op T)) (number : ℕ → ℕ)
+      (p : ℕ) (op : Op T) → AreOps written writes answers numbers reads ops number → slice_get ops p ≡ Some op →
       ((k : ℕ) × (op.kind ≡ Write) × (op.item ≡ slice_get written k) × (number p ≡ k + 1))
       ⊎ ((m : ℕ) × (op.kind ≡ Read) × (op.item ≡ slice_get answers m) × At numbers m (number p))
 
@@ -56,19 +58,22 @@ module _ (T : Type 0) where
   abbrev pub CountsShow : Type 0
   CountsShow = (opening : T) (written : List T) (writes : Times) (answers : List T) (numbers : List ℕ) (reads : Times) →
       AreAtomic opening written writes answers numbers reads →
-      (length reads.begins ≡ length answers) × (length reads.ends ≡ length answers) × (length writes.ends ≤ length written)
+      (length reads.begins ≡ length answers) × (length reads.ends ≡ length answers)
+      × (length writes.ends ≤ length written)
       × (length written ≤ length writes.ends + 1)
 
   -- the greatest record is a process's last, and none has a greater one
   abbrev pub GreatestShows : Type 0
   GreatestShows = (n : ℕ) (first last : Stamped T) (did : ℕ → Did T) → IsGreatestOwn n first did last →
-      ((i : ℕ) × (i < n) × (last ≡ own_after first (did i))) × ((i : ℕ) → i < n → IsAtMost (own_after first (did i)).stamp last.stamp)
+      ((i : ℕ) × (i < n) × (last ≡ own_after first (did i)))
+      × ((i : ℕ) → i < n → IsAtMost (own_after first (did i)).stamp last.stamp)
 
   -- an answer obeys the law, and is no older than the opening, the answer before and what was told
   abbrev pub AnsweredShow : Type 0
   AnsweredShow = (obeys : T → Bool) (opening : Posted T) (old new : ReadAccesses (Posted T)) (answer : Posted T) →
       IsFurtherAnswer obeys opening old new answer →
-      IsTrue (obeys answer.item) × IsAtMost opening.stamp answer.stamp × IsAtMost (last_or opening old.answers).stamp answer.stamp
+      IsTrue (obeys answer.item) × IsAtMost opening.stamp answer.stamp
+      × IsAtMost (last_or opening old.answers).stamp answer.stamp
       × ((k : ℕ) (told : Posted T) → slice_get old.told k ≡ Some told → IsAtMost told.stamp answer.stamp)
       × (new.answers ≡ old.answers ++ answer ∷ [])
 

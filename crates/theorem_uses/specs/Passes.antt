@@ -1,5 +1,6 @@
 -- Consequences of a pass and of a call that was made with it, by their parts (this project's own).
-use Rattle.std.specs.Prelude.{◌≡◌, ◌≢◌, ◌⊎◌, Bool, IsTrue, ℕ, ◌+◌, ◌<◌, ◌≤◌, List, [], ◌∷◌, length, slice_get, Some, vec_capacity}
+use Rattle.std.specs.Prelude.{◌≡◌, ◌≢◌, ◌⊎◌, Bool, IsTrue, ℕ, ◌+◌, ◌<◌, ◌≤◌, List, [], ◌∷◌, length}
+use Rattle.std.specs.Prelude.{slice_get, Some, vec_capacity}
 use Rattle.history_core.specs.declared.history.Kind.{Kind}
 use Rattle.matrix_core.specs.Choices.{IsAtMost}
 use Rattle.cell_contract.specs.declared.times.Known.{Known}
@@ -14,17 +15,17 @@ use Rattle.board_live.specs.Passes.{HasMade, IsCall, IsPass}
 use Rattle.board_live.specs.Records.{stamped}
 
 module _ {V F S T : Type 0} (words : FamilyWords F (Posted V) S T) (obeys : V → Bool) where
-  -- a call saw its own record or one that another process is known to have written, no older than the last write of a learnt receipt; no
-  -- stamp falls; of two processes it takes the steps of one access or of two; and if it is the first call of its pass, it is the only one
-  -- that was made with it
+  -- a call saw its own record or one that another process is known to have written, no older than the last write of a
+  -- learnt receipt; no stamp falls; of two processes it takes the steps of one access or of two; and if it is the first
+  -- call of its pass, it is the only one that was made with it
   abbrev pub CallsShow : Type 0
   CallsShow = (board : Board V F S T) (kind : Kind) (old new : Pass V F S T) (seen : Posted V) →
       IsCall words obeys board kind old new seen →
       (new.process ≡ old.process)
       × ((seen ≡ old.own) ⊎ ((j : ℕ) × (number : ℕ) × (j < board.processes) × (j ≢ old.process)
       × (slice_get (board.first ∷ (words.reads new.seat j).known.items) number ≡ Some seen)
-      × ((k : ℕ) (told : Known (Posted V)) → slice_get (words.reads new.seat j).heard k ≡ Some told → length told.items ≤ number)))
-      × IsAtMost old.own.stamp seen.stamp × IsAtMost seen.stamp new.own.stamp
+      × ((k : ℕ) (told : Known (Posted V)) → slice_get (words.reads new.seat j).heard k ≡ Some told →
+      length told.items ≤ number))) × IsAtMost old.own.stamp seen.stamp × IsAtMost seen.stamp new.own.stamp
       × (board.processes ≡ 2 → words.width ≡ 1 → (length (words.times new.seat) ≡ length (words.times old.seat) + 1)
       ⊎ (length (words.times new.seat) ≡ length (words.times old.seat) + 2))
       × (HasMade words board old [] → (call : Called V) × HasMade words board new (call ∷ []) × (call.kind ≡ kind)
@@ -36,15 +37,20 @@ module _ {V F S T : Type 0} (words : FamilyWords F (Posted V) S T) (obeys : V �
       (HasMade words board pass [] → (stamped pass.own ≡ stamped board.first) × (words.times pass.seat ≡ []))
       × ((call : Called V) → HasMade words board pass (call ∷ []) → stamped pass.own ≡ call.chosen)
 
-  -- a pass is one of 2 to 16 processes of its board, whose seat it has, with room for all seats if it is the last one; its
-  -- own record obeys its law, and each other process was shown it last; and some calls were made with it, within the limit
+  -- a pass is one of 2 to 16 processes of its board, whose seat it has, with room for all seats if it is the
+  -- last one; its own record obeys its law, and each other process was shown it last; and some calls were
+  -- made with it, within the limit
   abbrev pub PassesShow : Type 0
   PassesShow = (board : Board V F S T) (pass : Pass V F S T) → IsPass words obeys board pass →
-      (2 ≤ board.processes) × (board.processes ≤ 16) × (0 < words.width) × (words.processes board.family ≡ board.processes)
+      (2 ≤ board.processes) × (board.processes ≤ 16) × (0 < words.width)
+      × (words.processes board.family ≡ board.processes)
       × (words.opening board.family ≡ board.first) × (board.first.stamp.tag ≡ 0) × (board.first.stamp.writer ≡ 0)
-      × (pass.process < board.processes) × (pass.process + 1 ≡ board.processes → board.processes ≤ vec_capacity pass.room)
-      × (pass.room.items ≡ []) × words.is_seat board.family pass.seat × (words.who pass.seat ≡ pass.process) × IsTrue (obeys pass.own.item)
-      × ((j : ℕ) → j < board.processes → j ≢ pass.process → last_or board.first (words.writes pass.seat j).items ≡ pass.own)
+      × (pass.process < board.processes)
+      × (pass.process + 1 ≡ board.processes → board.processes ≤ vec_capacity pass.room)
+      × (pass.room.items ≡ []) × words.is_seat board.family pass.seat × (words.who pass.seat ≡ pass.process)
+      × IsTrue (obeys pass.own.item)
+      × ((j : ℕ) → j < board.processes → j ≢ pass.process →
+      last_or board.first (words.writes pass.seat j).items ≡ pass.own)
       × (words.limit board.family ≡ board.limit) × (calls : List (Called V)) × HasMade words board pass calls
 
   -- the passes of all processes stand in the order of their numbers

@@ -5,7 +5,8 @@ use Rattle.history_core.specs.declared.history.Kind.TheVariants.{Write, Read, Re
 use Rattle.history_core.specs.Schedules.{positions}
 use Rattle.matrix_core.specs.declared.stamp.Stamped.{Stamped}
 use Rattle.matrix_core.specs.Stamps.{greater}
-use Rattle.board_history.specs.BoardRuns.{Answered, Called, Did, IsBoardRun, IsProcess, IsRegister, steps_before, Written}
+use Rattle.board_history.specs.BoardRuns.{Answered, Called, Did, IsBoardRun, IsProcess}
+use Rattle.board_history.specs.BoardRuns.{IsRegister, steps_before, Written}
 
 module _ {V : Type 0} where
   -- a call from one time to another
@@ -25,11 +26,13 @@ module _ {V : Type 0} where
   answered_once x numbers begin end = record { items = x ∷ []; numbers = numbers; begins = begin ∷ []; ends = end ∷ [] }
 
 module _ (V : Type 0) where
-  -- process 0 of a board of two, over registers of one step, made one call and told what it chose: the call is its two steps, in the first
-  -- it reads the other process's register, and in the second it writes the record that it chose to its own
+  -- process 0 of a board of two, over registers of one step, made one call and told what it chose: the call
+  -- is its two steps, in the first it reads the other process's register, and in the second it writes the
+  -- record that it chose to its own
   abbrev pub ToldCallShows : Type 0
-  ToldCallShows = (limit b e : ℕ) (kind : Kind) (first seen chosen : Stamped V) (times : List ℕ) (writes : ℕ → Written V)
-      (reads : ℕ → Answered V) → IsProcess 1 2 limit first 0 (one_call times (called b e kind seen chosen true) writes reads) →
+  ToldCallShows = (limit b e : ℕ) (kind : Kind) (first seen chosen : Stamped V) (times : List ℕ)
+      (writes : ℕ → Written V) (reads : ℕ → Answered V) →
+      IsProcess 1 2 limit first 0 (one_call times (called b e kind seen chosen true) writes reads) →
       (times ≡ b ∷ e ∷ []) × ((reads 1).begins ≡ b ∷ []) × ((reads 1).ends ≡ b ∷ []) × ((writes 1).begins ≡ e ∷ [])
       × ((writes 1).ends ≡ e ∷ []) × ((writes 1).items ≡ chosen ∷ [])
       × ((answer : Stamped V) × ((reads 1).items ≡ answer ∷ []) × (seen ≡ greater first answer))
@@ -39,8 +42,9 @@ module _ (V : Type 0) where
 
   -- it told nothing: the call is one step, and it chose the record that the process had, the opening
   abbrev pub SilentCallShows : Type 0
-  SilentCallShows = (limit b e : ℕ) (kind : Kind) (first seen chosen : Stamped V) (times : List ℕ) (writes : ℕ → Written V)
-      (reads : ℕ → Answered V) → IsProcess 1 2 limit first 0 (one_call times (called b e kind seen chosen false) writes reads) →
+  SilentCallShows = (limit b e : ℕ) (kind : Kind) (first seen chosen : Stamped V) (times : List ℕ)
+      (writes : ℕ → Written V) (reads : ℕ → Answered V) →
+      IsProcess 1 2 limit first 0 (one_call times (called b e kind seen chosen false) writes reads) →
       (times ≡ b ∷ []) × (e ≡ b) × ((writes 1).items ≡ []) × (chosen ≡ first)
 
   -- of a register with one write a read that begins after it has its record, and one that ends before it the opening
@@ -51,7 +55,8 @@ module _ (V : Type 0) where
 
   -- a run has its processes' numbers and steps
   abbrev pub RunsShow : Type 0
-  RunsShow = (width n limit : ℕ) (first : Stamped V) (steps : List ℕ) (did : ℕ → Did V) → IsBoardRun width n limit first steps did →
+  RunsShow = (width n limit : ℕ) (first : Stamped V) (steps : List ℕ) (did : ℕ → Did V) →
+      IsBoardRun width n limit first steps did →
       (2 ≤ n) × (n ≤ 16) × (0 < width) × ((step who : ℕ) → slice_get steps step ≡ Some who → who < n)
       × ((i : ℕ) → i < n → (did i).times ≡ positions 1 i steps)
       × ((i : ℕ) → i < n → length (did i).times ≡ steps_before width n (did i).calls (length (did i).calls))

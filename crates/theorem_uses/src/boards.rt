@@ -1,5 +1,6 @@
 //! What the calls of a board say, one by one and all together when it ends.
-ghost use Rattle.theorem_uses.specs.Boards.{ComesOfOneSchedule, EndsWithTheGreatest, EndsWithTheOnlyWrite, ReadsTheOnlyWrite};
+ghost use Rattle.theorem_uses.specs.Boards.{ComesOfOneSchedule, EndsWithTheGreatest};
+ghost use Rattle.theorem_uses.specs.Boards.{EndsWithTheOnlyWrite, ReadsTheOnlyWrite};
 ghost use Rattle.theorem_uses.specs.Boards.{RefusesNone, SeesTheGreater, SeesWhatWasTold};
 ghost use Rattle.theorem_uses.specs.Boards.{ForgetsNoReceipt, ShowsItsOwn, StampsRiseByTime, TakesTime};
 ghost use Rattle.theorem_uses.specs.Going.{HaveOneGreatest, OrdersShow, RegistersHaveEnded, RegistersShow};
@@ -10,9 +11,9 @@ ghost use Rattle.history_core.specs.declared.history.Kind.{Kind};
 use board_live::{Board, Pass, Posted, RecordLaw};
 use cell_contract::Family;
 
-/// Of the calls of a board that has ended, whichever processes made them: a read that began after the only write had ended has its
-/// record, which the register holds in the end; no write is refused before one was made; stamps rise along intervals; and all come of one
-/// schedule of steps.
+/// Of the calls of a board that has ended, whichever processes made them: a read that began after the only write had
+/// ended has its record, which the register holds in the end; no write is refused before one was made; stamps rise
+/// along intervals; and all come of one schedule of steps.
 pub fn ended_boards_show<V: RecordLaw, F: Family<Posted<V>>>()
     ensures reads { ReadsTheOnlyWrite ⟦<F as Family<Posted<V>>>⟧ }
     ensures ends { EndsWithTheOnlyWrite ⟦<F as Family<Posted<V>>>⟧ }
@@ -22,19 +23,25 @@ pub fn ended_boards_show<V: RecordLaw, F: Family<Posted<V>>>()
     ensures schedule { ComesOfOneSchedule ⟦<F as Family<Posted<V>>>⟧ }
 {}
 
-/// A call of a board that goes on saw the greatest record, none older than what its process was told, and forgot no receipt; after it each
-/// other process is shown its process's own record; and it took its time after all that its process knew of.
+/// A call of a board that goes on saw the greatest record, none older than what its process was told, and
+/// forgot no receipt; after it each other process is shown its process's own record; and it took its time after
+/// all that its process knew of.
 pub fn calls_show<V: RecordLaw, F: Family<Posted<V>>>(
     board: &Board<V, F>,
     old: &Pass<V, F>,
     new: &Pass<V, F>,
     seen: &Posted<V>,
 )
-    ensures sees { (kind : Kind) → SeesTheGreater ⟦<F as Family<Posted<V>>>⟧ V.obeys board.now kind old.now new.now seen.now }
-    ensures heeds { (kind : Kind) → SeesWhatWasTold ⟦<F as Family<Posted<V>>>⟧ V.obeys board.now kind old.now new.now seen.now }
-    ensures shows { (kind : Kind) → ShowsItsOwn ⟦<F as Family<Posted<V>>>⟧ V.obeys board.now kind old.now new.now seen.now }
-    ensures receipts { (kind : Kind) → ForgetsNoReceipt ⟦<F as Family<Posted<V>>>⟧ V.obeys board.now kind old.now new.now seen.now }
-    ensures later { (kind : Kind) → TakesTime ⟦<F as Family<Posted<V>>>⟧ V.obeys board.now kind old.now new.now seen.now }
+    ensures sees { (kind : Kind) →
+        SeesTheGreater ⟦<F as Family<Posted<V>>>⟧ V.obeys board.now kind old.now new.now seen.now }
+    ensures heeds { (kind : Kind) →
+        SeesWhatWasTold ⟦<F as Family<Posted<V>>>⟧ V.obeys board.now kind old.now new.now seen.now }
+    ensures shows { (kind : Kind) →
+        ShowsItsOwn ⟦<F as Family<Posted<V>>>⟧ V.obeys board.now kind old.now new.now seen.now }
+    ensures receipts { (kind : Kind) →
+        ForgetsNoReceipt ⟦<F as Family<Posted<V>>>⟧ V.obeys board.now kind old.now new.now seen.now }
+    ensures later { (kind : Kind) →
+        TakesTime ⟦<F as Family<Posted<V>>>⟧ V.obeys board.now kind old.now new.now seen.now }
 {}
 
 /// Of what a board shows while it goes on: passes have one greatest record, nobody is shown what wasn't told, and a

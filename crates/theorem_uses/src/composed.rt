@@ -1,6 +1,8 @@
 //! What a played board says of how it came about: its terms, their runs, and the choices of their operations.
-ghost use Rattle.theorem_uses.specs.Composed.{ChoicesShow, EarlierShows, FirstChoiceShows, ListedSlotsShow, OrdersByStampShow, PartsShow};
-ghost use Rattle.theorem_uses.specs.Composed.{PlayableShow, RunOfBoardShows, SecondChoiceShows, SlotsOfBoardShow, TwoTermsShow};
+ghost use Rattle.theorem_uses.specs.Composed.{ChoicesShow, EarlierShows, FirstChoiceShows, ListedSlotsShow};
+ghost use Rattle.theorem_uses.specs.Composed.{OrdersByStampShow, PartsShow};
+ghost use Rattle.theorem_uses.specs.Composed.{PlayableShow, RunOfBoardShows, SecondChoiceShows};
+ghost use Rattle.theorem_uses.specs.Composed.{SlotsOfBoardShow, TwoTermsShow};
 
 /// A board's report is what its terms gave, each by a run of its cells, and only what can be played is played.
 pub fn terms_show<R>()

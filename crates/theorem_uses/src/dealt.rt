@@ -1,5 +1,6 @@
 //! What a new board is, what accesses of its seats add, and what one order of all calls says.
-ghost use Rattle.theorem_uses.specs.Dealt.{NewBoardsShow, OneOrderShows, OneRegisterShows, OpeningsShow, ReadsFromShow, RowsShow};
+ghost use Rattle.theorem_uses.specs.Dealt.{NewBoardsShow, OneOrderShows, OneRegisterShows};
+ghost use Rattle.theorem_uses.specs.Dealt.{OpeningsShow, ReadsFromShow, RowsShow};
 ghost use Rattle.theorem_uses.specs.Dealt.{SourcesShow, StepsRise, StepsShow, TimesShow, UnusedShow, WritesToShow};
 
 use board_live::{Posted, RecordLaw};

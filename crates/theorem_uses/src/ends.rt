@@ -9,9 +9,8 @@ use cell_contract::Family;
 use matrix_core::Stamp;
 use std::alloc::{AllocError, Global};
 
-/// With the fresh passes of a board of three processes q writes and tells p, p tells r, r reads, and the board ends: r's answer is q's
-/// record,
-/// or has a greater stamp. None where the tags have ended.
+/// With the fresh passes of a board of three processes q writes and tells p, p tells r, r reads, and the board ends:
+/// r's answer is q's record, or has a greater stamp. None where the tags have ended.
 pub fn ends_no_older<V: RecordLaw, F: Family<Posted<V>>>(
     alloc: Global,
     board: Board<V, F>,
@@ -41,8 +40,8 @@ pub fn ends_no_older<V: RecordLaw, F: Family<Posted<V>>>(
     Ok(Some((stamp, answer)))
 }
 
-/// With the fresh passes of a board of two processes one writes the item and tells, the other learns and reads, and the board ends: the
-/// answer is the very item, whatever the law of the records. None where the tags have ended.
+/// With the fresh passes of a board of two processes one writes the item and tells, the other learns and reads, and the
+/// board ends: the answer is the very item, whatever the law of the records. None where the tags have ended.
 pub fn gives_back<V: RecordLaw, F: Family<Posted<V>>>(
     alloc: Global,
     board: Board<V, F>,

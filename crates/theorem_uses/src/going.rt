@@ -9,8 +9,9 @@ use board_live::{Board, Pass, Posted, RecordLaw};
 use cell_contract::{Family, SoFar};
 use matrix_core::Stamp;
 
-/// Looks twice at what all calls so far are together. As no call was made between them, both give one record. A read that began after the
-/// only write had ended has its record, and of a process that told another one nothing this one has no answer but the opening.
+/// Looks twice at what all calls so far are together. As no call was made between them, both give one record. A read
+/// that began after the only write had ended has its record, and of a process that told another one nothing this one
+/// has no answer but the opening.
 pub fn looked_twice<V: RecordLaw, F: Family<Posted<V>>>(
     board: &Board<V, F>,
     passes: &mut Vec<Pass<V, F>>,
@@ -25,9 +26,9 @@ pub fn looked_twice<V: RecordLaw, F: Family<Posted<V>>>(
     (first, second)
 }
 
-/// Writes the item, and looks with this one pass at what all calls so far are together, wherever the other processes are,
-/// also if they were stopped for ever in the middle of a call: the write stands once in their order. None where the tags
-/// have ended.
+/// Writes the item, and looks with this one pass at what all calls so far are together, wherever the other
+/// processes are, also if they were stopped for ever in the middle of a call: the write stands once in their order.
+/// None where the tags have ended.
 pub fn stands_whoever_stops<V: RecordLaw, F: SoFar<Posted<V>>>(
     board: &Board<V, F>,
     pass: &mut Pass<V, F>,
@@ -44,8 +45,8 @@ pub fn stands_whoever_stops<V: RecordLaw, F: SoFar<Posted<V>>>(
     Some(stamp)
 }
 
-/// Writes the item, wherever the other processes are, also if they were stopped for ever in the middle of a call: once the
-/// write has returned it stands in the order of all calls so far. None where the tags have ended.
+/// Writes the item, wherever the other processes are, also if they were stopped for ever in the middle of a call: once
+/// the write has returned it stands in the order of all calls so far. None where the tags have ended.
 pub fn stands_at_once<V: RecordLaw, F: Family<Posted<V>>>(
     board: &Board<V, F>,
     pass: &mut Pass<V, F>,

@@ -4,7 +4,8 @@ ghost use Rattle.theorem_uses.specs.Learnt.{BoundsShow, DuplicatesShow, LearntSh
 use board_live::{Posted, RecordLaw};
 use cell_contract::Family;
 
-/// A receipt names its sender's record, and has its time and its writes; so does its duplicate, and who learns it knows of them.
+/// A receipt names its sender's record, and has its time and its writes; so does its duplicate, and
+/// who learns it knows of them.
 pub fn receipts_show<V: RecordLaw, F: Family<Posted<V>>>()
     ensures receipts { ReceiptsShow ⟦<F as Family<Posted<V>>>⟧ }
     ensures told { ToldShow ⟦<F as Family<Posted<V>>>⟧ }

@@ -1,8 +1,9 @@
-//! What may be concluded from the theorems: laws and callers that use nothing but the public words of contracts, and end in an exact value
-//! or in a contradiction. A part of such a word has a law here that fails without it, so that it can't be emptied unseen.
+//! What may be concluded from the theorems: laws and callers that use nothing but the public words of contracts,
+//! and end in an exact value or in a contradiction. A part of such a word has a law here that fails without it, so
+//! that it can't be emptied unseen.
 //!
-//! Some of them say what the one time of a board's calls buys its callers: a receipt passes on all that its sender knew, also through a
-//! process that has read nothing, and a read that begins after it gives no older record.
+//! Some of them say what the one time of a board's calls buys its callers: a receipt passes on all that its sender
+//! knew, also through a process that has read nothing, and a read that begins after it gives no older record.
 #![tactic(auto)]
 
 pub mod boards;

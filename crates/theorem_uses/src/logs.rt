@@ -1,10 +1,12 @@
 //! What the logs of tasks say of the calls that were made, and whether any logs are sound.
-ghost use Rattle.theorem_uses.specs.Logs.{AtomicLogsShow, BrokenLogsShow, ChosenShow, EntriesShow, LanesShow, RepliesShow, SoundLogsShow};
+ghost use Rattle.theorem_uses.specs.Logs.{AtomicLogsShow, BrokenLogsShow, ChosenShow, EntriesShow, LanesShow};
+ghost use Rattle.theorem_uses.specs.Logs.{RepliesShow, SoundLogsShow};
 
 use board_live::{Posted, RecordLaw};
 use cell_contract::Family;
 
-/// An entry tells of one call, with the reply that its wish and what it saw have; lanes that have worked tell of all calls.
+/// An entry tells of one call, with the reply that its wish and what it saw have; lanes that
+/// have worked tell of all calls.
 pub fn logs_show<V: RecordLaw, F: Family<Posted<V>>>()
     ensures replies { RepliesShow V }
     ensures chosen { ChosenShow V }

@@ -1,9 +1,11 @@
 //! What a played cell says of how it came about, and what a safe slot answers.
-ghost use Rattle.theorem_uses.specs.Mechanisms.{CellNumbersShow, CellOrdersShow, FinishedReadsShow, OwnNumbersShow, PlacesShow};
+ghost use Rattle.theorem_uses.specs.Mechanisms.{CellNumbersShow, CellOrdersShow, FinishedReadsShow};
+ghost use Rattle.theorem_uses.specs.Mechanisms.{OwnNumbersShow, PlacesShow};
 ghost use Rattle.theorem_uses.specs.Mechanisms.{RunOfCellShows};
 ghost use Rattle.theorem_uses.specs.Mechanisms.{SafeSlotsShow, SlotAccessesShow};
 
-/// A played cell's slots and answers are those of its run, and each finished read has the record that was put into its slot last.
+/// A played cell's slots and answers are those of its run, and each finished read has the record
+/// that was put into its slot last.
 pub fn runs_of_cells_show<R>()
     ensures run { RunOfCellShows R }
     ensures reads { FinishedReadsShow R }

@@ -1,5 +1,6 @@
 //! What a task adds to its log, and what logs in one order say.
-ghost use Rattle.theorem_uses.specs.Noted.{LogOrdersShow, MadeEntriesShow, NothingTaken, PermitsShow, RanShow, RunLogsShow, ScriptsShow};
+ghost use Rattle.theorem_uses.specs.Noted.{LogOrdersShow, MadeEntriesShow, NothingTaken, PermitsShow};
+ghost use Rattle.theorem_uses.specs.Noted.{RanShow, RunLogsShow, ScriptsShow};
 ghost use Rattle.theorem_uses.specs.Noted.{TakesShow, WishesShow};
 
 use board_live::{Posted, RecordLaw};

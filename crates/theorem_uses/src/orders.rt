@@ -1,11 +1,13 @@
 //! What an atomic order says of the operations that it lists.
 ghost use Rattle.std.specs.Prelude.{ℕ};
-ghost use Rattle.theorem_uses.specs.Orders.{HasWhatIsThere, KeepsIntervals, ListsEachOnce, ListsNothingElse, StaleIsAbsurd};
+ghost use Rattle.theorem_uses.specs.Orders.{HasWhatIsThere, KeepsIntervals, ListsEachOnce};
+ghost use Rattle.theorem_uses.specs.Orders.{ListsNothingElse, StaleIsAbsurd};
 ghost use Rattle.theorem_uses.specs.Orders.{WaitsForTheLimit};
 ghost use Rattle.theorem_uses.specs.Orders.{SawWhatIsThere, StandsOnceAtMost, VerdictsShow};
 
-/// An operation that ended stands at one place of an atomic order, and at no other one. An order lists nothing but operations, and of the
-/// unfinished ones writes alone. It keeps their intervals, and a read has the record that is there.
+/// An operation that ended stands at one place of an atomic order, and at no other one. An order lists
+/// nothing but operations, and of the unfinished ones writes alone. It keeps their intervals, and a read
+/// has the record that is there.
 pub fn atomic_orders_show<R>()
     ensures each { ListsEachOnce R }
     ensures nothing { ListsNothingElse R }

@@ -1,5 +1,6 @@
 //! What accesses of a family, orders by number and counts of calls say.
-ghost use Rattle.theorem_uses.specs.Parts.{AnsweredShow, CountsShow, FollowsShow, GreatestShows, MindfulShows, NothingShows};
+ghost use Rattle.theorem_uses.specs.Parts.{AnsweredShow, CountsShow, FollowsShow, GreatestShows};
+ghost use Rattle.theorem_uses.specs.Parts.{MindfulShows, NothingShows};
 ghost use Rattle.theorem_uses.specs.Parts.{NumbersShow, OpsShow, ReadsShow, WritesShow};
 
 /// A read and a write of a family add what they say, and an answer is no older than what was told.

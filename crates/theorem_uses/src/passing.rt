@@ -7,8 +7,8 @@ use board_live::{Board, Pass, Posted, RecordLaw};
 use cell_contract::Family;
 use matrix_core::Stamp;
 
-/// q writes and tells p, p tells r, and r reads: r's read begins after q's write had ended, though p has read nothing. Gives the write's
-/// stamp and r's answer, or none where the tags have ended.
+/// q writes and tells p, p tells r, and r reads: r's read begins after q's write had ended, though p has read nothing.
+/// Gives the write's stamp and r's answer, or none where the tags have ended.
 pub fn pass_on<V: RecordLaw, F: Family<Posted<V>>>(
     board: &Board<V, F>,
     q: &mut Pass<V, F>,
@@ -24,7 +24,8 @@ pub fn pass_on<V: RecordLaw, F: Family<Posted<V>>>(
     ensures p { IsPass ⟦<F as Family<Posted<V>>>⟧ V.obeys board.now p.new × (p.new.process ≡ p.old.process) }
     ensures r { IsPass ⟦<F as Family<Posted<V>>>⟧ V.obeys board.now r.new × (r.new.process ≡ r.old.process) }
     ensures silent { HasMadeNone ⟦<F as Family<Posted<V>>>⟧ board.now p.old p.new }
-    ensures heard { IfSome result (λ x. HasHeard ⟦<F as Family<Posted<V>>>⟧ board.now q.old q.new r.old r.new item x.0 x.1) }
+    ensures heard { IfSome result
+        (λ x. HasHeard ⟦<F as Family<Posted<V>>>⟧ board.now q.old q.new r.old r.new item x.0 x.1) }
 {
     let Ok(stamp) = board.write(q, item) else {
         return None;
@@ -37,8 +38,8 @@ pub fn pass_on<V: RecordLaw, F: Family<Posted<V>>>(
     Some((stamp, answer))
 }
 
-/// q writes, and its one receipt is doubled: p and r each learn one and read. Both reads begin after q's write had ended. Gives the write's
-/// stamp and both answers, or none if the tags have ended.
+/// q writes, and its one receipt is doubled: p and r each learn one and read. Both reads begin after q's write had
+/// ended. Gives the write's stamp and both answers, or none if the tags have ended.
 pub fn pass_twice<V: RecordLaw, F: Family<Posted<V>>>(
     board: &Board<V, F>,
     q: &mut Pass<V, F>,
@@ -50,8 +51,10 @@ pub fn pass_twice<V: RecordLaw, F: Family<Posted<V>>>(
     requires p { IsPass ⟦<F as Family<Posted<V>>>⟧ V.obeys board.now p.old }
     requires r { IsPass ⟦<F as Family<Posted<V>>>⟧ V.obeys board.now r.old }
     requires item { IsTrue (V.obeys item) }
-    ensures first { IfSome result (λ x. HasHeard ⟦<F as Family<Posted<V>>>⟧ board.now q.old q.new p.old p.new item x.0 x.1) }
-    ensures second { IfSome result (λ x. HasHeard ⟦<F as Family<Posted<V>>>⟧ board.now q.old q.new r.old r.new item x.0 x.2) }
+    ensures first { IfSome result
+        (λ x. HasHeard ⟦<F as Family<Posted<V>>>⟧ board.now q.old q.new p.old p.new item x.0 x.1) }
+    ensures second { IfSome result
+        (λ x. HasHeard ⟦<F as Family<Posted<V>>>⟧ board.now q.old q.new r.old r.new item x.0 x.2) }
 {
     let Ok(stamp) = board.write(q, item) else {
         return None;

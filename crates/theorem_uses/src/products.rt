@@ -1,7 +1,9 @@
 //! What the theorems of the checker, a cell and a board come to, part by part.
 ghost use Rattle.std.specs.Prelude.{IsTrue};
-ghost use Rattle.theorem_uses.specs.Products.{BoardCalls, BoardCallStands, BoardShows, CellHeeds, CellIsEnded, CellReads};
-ghost use Rattle.theorem_uses.specs.Products.{CellWrites, GreatestIsThere, SearchMissesNone, VerdictIsExact, WritesChoose};
+ghost use Rattle.theorem_uses.specs.Products.{BoardCalls, BoardCallStands, BoardShows};
+ghost use Rattle.theorem_uses.specs.Products.{CellHeeds, CellIsEnded, CellReads};
+ghost use Rattle.theorem_uses.specs.Products.{CellWrites, GreatestIsThere, SearchMissesNone};
+ghost use Rattle.theorem_uses.specs.Products.{VerdictIsExact, WritesChoose};
 
 use board_live::{Posted, RecordLaw};
 use cell_contract::{Calls, Family, Lawful};
@@ -20,7 +22,8 @@ pub fn cells_show<T: Lawful, C: Calls<T>>()
     ensures ends { CellIsEnded ⟦<C as Calls<T>>⟧ T.fits T.rises }
 {}
 
-/// A board's read and write are calls that stand in one order with all calls so far, and all its calls are atomic at its end.
+/// A board's read and write are calls that stand in one order with all calls so far, and all its
+/// calls are atomic at its end.
 pub fn products_of_boards_show<V: RecordLaw, F: Family<Posted<V>>>()
     ensures calls { BoardCalls ⟦<F as Family<Posted<V>>>⟧ }
     ensures stands { BoardCallStands ⟦<F as Family<Posted<V>>>⟧ }

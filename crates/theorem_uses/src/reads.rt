@@ -9,8 +9,8 @@ pub fn reads_show<W>()
     ensures triple { TripleReadsShow W }
 {}
 
-/// A register's read shows all calls so far in one order, also a write that is under way or was cut off: an answer older than an earlier one
-/// is absurd.
+/// A register's read shows all calls so far in one order, also a write that is under way or was cut off: an answer
+/// older than an earlier one is absurd.
 pub fn stale_reads_show<W>()
     ensures four_slot { FourSlotReadsNeverFall W }
     ensures triple { TripleReadsNeverFall W }

@@ -8,7 +8,8 @@ ghost use Rattle.board_live.specs.Passes.{IsPass};
 use board_live::{Board, Pass, Posted, RecordLaw};
 use cell_contract::Family;
 
-/// A write and a read on a board of four processes take at most 36 steps. Gives whether the tags had not ended, and the answer.
+/// A write and a read on a board of four processes take at most 36 steps. Gives whether the tags
+/// had not ended, and the answer.
 pub fn turn_of_four<V: RecordLaw, F: Family<Posted<V>>>(
     board: &Board<V, F>,
     pass: &mut Pass<V, F>,
@@ -24,9 +25,9 @@ pub fn turn_of_four<V: RecordLaw, F: Family<Posted<V>>>(
     (written, seen)
 }
 
-/// On a board of two processes one writes and tells, and the other, which has seen nothing yet, learns and reads: the answer is one of the
-/// writes that begin with all that were really made with the writer's pass, and no older than the last of these, which is the item's. None
-/// if the tags have ended.
+/// On a board of two processes one writes and tells, and the other, which has seen nothing yet, learns and reads: the
+/// answer is one of the writes that begin with all that were really made with the writer's pass, and no older than the
+/// last of these, which is the item's. None if the tags have ended.
 pub fn answers_written<V: RecordLaw, F: Family<Posted<V>>>(
     board: &Board<V, F>,
     writer: &mut Pass<V, F>,

@@ -28,7 +28,8 @@ pub fn runs_so_far_show<V>()
     ensures parts { RunsSoFarShow V }
 {}
 
-/// Of a process that keeps to the plan of a board's records: it writes one record a row, and nothing before it has read.
+/// Of a process that keeps to the plan of a board's records: it writes one record a row,
+/// and nothing before it has read.
 pub fn plans_show<V>()
     ensures row { WritesOneRecordARow V }
     ensures reads { WritesAfterItReads V }

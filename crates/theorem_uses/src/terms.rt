@@ -8,14 +8,15 @@ use board_live::{Board, BoardError, Pass, Posted, RecordLaw};
 use cell_contract::Family;
 use std::alloc::Global;
 
-/// If a board has ended, and the next one opened with the record that it gave, as one of `renew` does, then all calls of both are one
-/// history of two terms: atomic by their intervals, where the second board's steps come behind the first one's, and refused lawfully.
+/// If a board has ended, and the next one opened with the record that it gave, as one of `renew` does, then all calls
+/// of both are one history of two terms: atomic by their intervals, where the second board's steps come behind the
+/// first one's, and refused lawfully.
 pub fn terms_join<V: RecordLaw, F: Family<Posted<V>>>()
     ensures { TermsJoin ⟦<F as Family<Posted<V>>>⟧ }
 {}
 
-/// Ends a board and makes the next one, which goes on from its last record: whatever calls were made with the passes, and whatever calls
-/// the next board's will be, they are one history of two terms.
+/// Ends a board and makes the next one, which goes on from its last record: whatever calls were made with the passes,
+/// and whatever calls the next board's will be, they are one history of two terms.
 pub fn renew_after<V: RecordLaw, F: Family<Posted<V>>>(
     alloc: Global,
     board: Board<V, F>,

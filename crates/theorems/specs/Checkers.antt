@@ -1,5 +1,5 @@
--- What the checker and the search promise, in one place (atomic orders are L. Lamport's, On Interprocess Communication, Parts I and II,
--- Distributed Computing 1, 1986; lawful refusal and the reasons are this project's own).
+-- What the checker and the search promise, in one place (atomic orders are L. Lamport's, On Interprocess Communication,
+-- Parts I and II, Distributed Computing 1, 1986; lawful refusal and the reasons are this project's own).
 use Rattle.std.specs.Prelude.{◌≡◌, ℕ, ◌≤◌, List, Result, Ok, MatchResult}
 use Rattle.history_core.specs.declared.history.Op.{Op}
 use Rattle.history_core.specs.declared.history.Term.{Term}
@@ -31,6 +31,6 @@ module _ {R : Type 0} (Same : R → R → Type 0) (opening : R) (terms : List Te
     pub reasons : (reason : Reason) → search ≡ Ok (Unlawful reason) →
         (limit : ℕ) × IsReason Same opening limit ops reason
         × ((other : Reason) → IsReason Same opening limit ops other → rule_of reason ≤ rule_of other)
-    -- a history of one term in which no record is written twice and none is the opening has one of these answers; of any other, and where
-    -- memory is refused, this stands in the way
+    -- a history of one term in which no record is written twice and none is the opening has one of these answers; of
+    -- any other, and where memory is refused, this stands in the way
     pub answers : MatchResult search (IsAnswered Same opening terms ops) (IsFault Same opening terms ops)

@@ -7,8 +7,8 @@ use board_live::{Board, Pass, Posted, RecordLaw, Refused};
 use cell_contract::Family;
 use matrix_core::Stamp;
 
-/// The last process reads and writes the item, whatever was done with the passes before and whatever the others do then. Gives what was
-/// read, and the write's answer.
+/// The last process reads and writes the item, whatever was done with the passes before and whatever the others do
+/// then. Gives what was read, and the write's answer.
 pub fn board_theorem<V: RecordLaw, F: Family<Posted<V>>>(
     board: Board<V, F>,
     passes: Vec<Pass<V, F>>,
@@ -27,7 +27,8 @@ pub fn board_theorem<V: RecordLaw, F: Family<Posted<V>>>(
     (seen, wrote)
 }
 
-/// Shows all calls so far, whatever was done with the passes before, and ends the board. Gives the greatest record at each of the two looks.
+/// Shows all calls so far, whatever was done with the passes before, and ends the board. Gives the greatest
+/// record at each of the two looks.
 pub fn board_end_theorem<V: RecordLaw, F: Family<Posted<V>>>(
     board: Board<V, F>,
     passes: Vec<Pass<V, F>>,

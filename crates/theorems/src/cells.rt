@@ -4,7 +4,8 @@ ghost use Rattle.theorems.specs.Cells.{CellTheorem};
 
 use cell_contract::{Calls, Lawful};
 
-/// Writes the item, tells and learns of it, reads, and ends the cell, whatever was done with its passes before. Gives the answer.
+/// Writes the item, tells and learns of it, reads, and ends the cell, whatever was done with its
+/// passes before. Gives the answer.
 pub fn cell_theorem<T: Lawful, C: Calls<T>>(cell: C, put: C::Put, get: C::Get, item: T) -> T
     requires own { C.is_put cell put × C.is_get cell get }
     requires lawful { T.fits item × T.rises (last_or (C.opening cell) (C.written put)) item }

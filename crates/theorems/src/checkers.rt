@@ -13,7 +13,8 @@ pub fn checker_theorem<R: Copy + Ord>(
     h: &History<R>,
     order: &[usize],
 ) -> (Verdict, Result<Search, SearchError>)
-    ensures { CheckerTheorem (λ x y. IsTrue (R.eq x y)) h.now.opening h.now.terms h.now.ops order.now result.0 result.1 }
+    ensures { CheckerTheorem (λ x y. IsTrue (R.eq x y))
+        h.now.opening h.now.terms h.now.ops order.now result.0 result.1 }
 {
     let verdict = check_order(h, order);
     let found = find_order(alloc, h);

@@ -1,4 +1,5 @@
-//! One theorem a product: what a cell, a board and the checker promise, each in one record, proved of a function that makes the calls.
+//! One theorem a product: what a cell, a board and the checker promise, each in one record, proved of a
+//! function that makes the calls.
 #![tactic(auto)]
 
 pub mod boards;

@@ -1,4 +1,5 @@
--- A call, access by access. Only private functions cite this, which is this project's own; what a call promises stands in Passes.
+-- A call, access by access. Only private functions cite this, which is this project's own; what a
+-- call promises stands in Passes.
 use Rattle.std.specs.Prelude.{◌≡◌, ◌⊎◌, Bool, IsTrue, ℕ, ◌-◌, ◌*◌, ◌<◌, ◌≤◌, List, [], ◌++◌, length, slice_get, Some}
 use Rattle.std.specs.Prelude.{true, false, if◌then◌else◌}
 use Rattle.cell_contract.specs.declared.times.Times.{Times}
@@ -15,7 +16,8 @@ use Rattle.board_live.specs.Records.{greatest_posted, Rises}
 
 -- these steps are later than the first time, and the last of them is at the second; or there are none
 abbrev pub IsStretch : ℕ → ℕ → List ℕ → Type 0
-IsStretch clock clock' steps = ((steps ≡ []) × (clock' ≡ clock)) ⊎ ((begin : ℕ) × (slice_get steps 0 ≡ Some begin) × (clock < begin)
+IsStretch clock clock' steps = ((steps ≡ []) × (clock' ≡ clock))
+    ⊎ ((begin : ℕ) × (slice_get steps 0 ≡ Some begin) × (clock < begin)
     × (begin ≤ clock') × (slice_get steps (length steps - 1) ≡ Some clock'))
 
 -- access number `access` of these steps is the last of the times
@@ -33,11 +35,14 @@ module _ {V F S T : Type 0} (words : FamilyWords F (Posted V) S T) where
 
   -- what all processes have done so far, shown by this seat
   abbrev pub ShowsAll : F → S → Type 0
-  ShowsAll family seat = AreSoFar (MakesCalls (words.opening family) words.width (words.processes family) (words.limit family))
-      (words.opening family) (words.processes family) (words.who seat) (words.times seat) (words.writes seat) (words.reads seat)
+  ShowsAll family seat =
+      AreSoFar (MakesCalls (words.opening family) words.width (words.processes family) (words.limit family))
+      (words.opening family) (words.processes family) (words.who seat) (words.times seat) (words.writes seat)
+      (words.reads seat)
 
   -- the first of the others were read, each once
-  pub record HasReadColumn (obeys : V → Bool) (family : F) (process count : ℕ) (seat seat' : S) (seen seen' : Posted V) : Type 0 where
+  pub record HasReadColumn (obeys : V → Bool) (family : F) (process count : ℕ) (seat seat' : S)
+      (seen seen' : Posted V) : Type 0 where
     pub of : words.is_seat family seat' × (words.who seat' ≡ words.who seat)
     pub steps : List ℕ
     pub long : length steps ≡ count * words.width
@@ -46,8 +51,10 @@ module _ {V F S T : Type 0} (words : FamilyWords F (Posted V) S T) where
     pub answers : List (Posted V)
     pub each : length answers ≡ count
     pub reads : (e : ℕ) (answer : Posted V) → slice_get answers e ≡ Some answer →
-        IsIntervalOf words.width steps e (words.reads seat (other process e)).times (words.reads seat' (other process e)).times
-        × IsFurtherAnswer obeys (words.opening family) (words.reads seat (other process e)) (words.reads seat' (other process e)) answer
+        IsIntervalOf words.width steps e (words.reads seat (other process e)).times
+        (words.reads seat' (other process e)).times
+        × IsFurtherAnswer obeys (words.opening family) (words.reads seat (other process e))
+        (words.reads seat' (other process e)) answer
     pub unread : (e : ℕ) → count ≤ e → words.reads seat' (other process e) ≡ words.reads seat (other process e)
     pub writes : KeepsEach (words.writes seat) (words.writes seat')
     pub sees : seen' ≡ greatest_posted seen answers
@@ -62,10 +69,12 @@ module _ {V F S T : Type 0} (words : FamilyWords F (Posted V) S T) where
     pub times : words.times seat' ≡ words.times seat ++ steps
     pub span : IsStretch (words.clock seat) (words.clock seat') steps
     pub writes : (e : ℕ) → e < count →
-        IsIntervalOf words.width steps e (words.writes seat (other process e)).times (words.writes seat' (other process e)).times
+        IsIntervalOf words.width steps e (words.writes seat (other process e)).times
+        (words.writes seat' (other process e)).times
         × IsWriteAccess (words.writes seat (other process e)) (words.writes seat' (other process e)) item
     pub unwritten : (e : ℕ) → count ≤ e → words.writes seat' (other process e) ≡ words.writes seat (other process e)
-    pub last : (e : ℕ) (first : Posted V) → e < count → last_or first (words.writes seat' (other process e)).items ≡ item
+    pub last : (e : ℕ) (first : Posted V) → e < count →
+        last_or first (words.writes seat' (other process e)).items ≡ item
     pub reads : KeepsEach (words.reads seat) (words.reads seat')
 
   -- the record was written to each of so many others; or nothing was, since it is the own record, which stands there
@@ -77,8 +86,10 @@ module _ {V F S T : Type 0} (words : FamilyWords F (Posted V) S T) where
     pub times : words.times seat' ≡ words.times seat ++ steps
     pub span : IsStretch (words.clock seat) (words.clock seat') steps
     pub writes : tells ≡ true → (e : ℕ) → e < count →
-        IsIntervalOf words.width steps e (words.writes seat (other process e)).times (words.writes seat' (other process e)).times
+        IsIntervalOf words.width steps e (words.writes seat (other process e)).times
+        (words.writes seat' (other process e)).times
         × IsWriteAccess (words.writes seat (other process e)) (words.writes seat' (other process e)) item
     pub unwritten : tells ≡ false → KeepsEach (words.writes seat) (words.writes seat') × (item ≡ own)
-    pub last : tells ≡ true → (e : ℕ) (first : Posted V) → e < count → last_or first (words.writes seat' (other process e)).items ≡ item
+    pub last : tells ≡ true → (e : ℕ) (first : Posted V) → e < count →
+        last_or first (words.writes seat' (other process e)).items ≡ item
     pub reads : KeepsEach (words.reads seat) (words.reads seat')

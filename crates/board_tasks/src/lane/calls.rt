@@ -56,7 +56,8 @@ impl<V: RecordLaw, F: Family<Posted<V>>> Lane<V, F> {
         (pass, log)
     }
 
-    /// Makes the next call of the script, for which the permit is, notes its reply, and gives the permit back to the gate.
+    /// Makes the next call of the script, for which the permit is, notes its reply, and gives
+    /// the permit back to the gate.
     fn call<G: Gate>(&mut self, board: &Board<V, F>, gate: &G, task: usize, permit: G::Permit)
         requires pass { IsPass ⟦<F as Family<Posted<V>>>⟧ V.obeys board.now self.old.pass }
         requires lane { IsLane V.obeys self.old }
@@ -105,7 +106,8 @@ pub(crate) fn run_lane<V: RecordLaw, F: Family<Posted<V>>, G: Gate>(
 )
     requires pass { IsPass ⟦<F as Family<Posted<V>>>⟧ V.obeys board.now lane.old.pass }
     requires lane { IsLane V.obeys lane.old }
-    ensures { Ran ⟦<F as Family<Posted<V>>>⟧ V.obeys (Permitted G.is_for gate.now) (G.may_stop gate.now) board.now task lane.old lane.new }
+    ensures { Ran ⟦<F as Family<Posted<V>>>⟧ V.obeys (Permitted G.is_for gate.now)
+        (G.may_stop gate.now) board.now task lane.old lane.new }
 {
     for call in lane.log.len()..lane.script.len() {
         let Some(permit) = gate.before(task, call + 1) else {

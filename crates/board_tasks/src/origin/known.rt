@@ -1,6 +1,7 @@
 //! Records that were written in logs whose entries are in order.
 ghost use Rattle.std.specs.Prelude.{◌≡◌, ◌≤◌, length, map, slice_get, Some};
-ghost use Rattle.board_tasks.specs.Origins.{AllKeep, has_origin, has_write, in_order, is_known, KeptBefore, sees_known, wrote};
+ghost use Rattle.board_tasks.specs.Origins.{AllKeep, has_origin, has_write, in_order, is_known};
+ghost use Rattle.board_tasks.specs.Origins.{KeptBefore, sees_known, wrote};
 ghost use Rattle.board_tasks.specs.Logs.{stamp_of};
 ghost use Rattle.board_tasks.specs.inner.Found.{IsFirstFrom};
 ghost use Rattle.matrix_core.specs.Stamps.{is_below};

@@ -21,7 +21,8 @@ pub(crate) struct MayHaveOrigin<'a, V, L> {
 impl<'a, V: Copy + Eq, L: HasLog<V>> Rule<V> for MayHaveOrigin<'a, V, L> {
     ghost ready = { λ s. AllKeep in_order (map L.logged s.logs.now) };
 
-    ghost rule = { λ s task before e. may_have_origin V.eq s.opening s.lost.now (map L.logged s.logs.now) task before e };
+    ghost rule = { λ s task before e. may_have_origin V.eq s.opening s.lost.now
+        (map L.logged s.logs.now) task before e };
 
     fn keeps(&self, _task: usize, _before: Stamp, entry: &Entry<V>) -> bool {
         match entry.reply {
@@ -33,7 +34,8 @@ impl<'a, V: Copy + Eq, L: HasLog<V>> Rule<V> for MayHaveOrigin<'a, V, L> {
     }
 }
 
-/// Whether a record is of a task whose log is lost, or is the opening at stamp 0.0, or was written in the log that its stamp names.
+/// Whether a record is of a task whose log is lost, or is the opening at stamp 0.0, or was written in
+/// the log that its stamp names.
 fn may_be_known<V: Copy + Eq, L: HasLog<V>>(
     opening: V,
     logs: &[L],

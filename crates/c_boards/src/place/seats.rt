@@ -31,7 +31,8 @@ fn seats<V: RecordLaw + Drop, F: Family<Posted<V>>>(
     board: Arc<Board<V, F>, Global>,
     passes: Vec<Pass<V, F>>,
 ) -> Result<Vec<Place<V, F>>, AllocError>
-    ensures { IfOk result (λ v. Pairs (λ p s. (s.pass.value ≡ p) × (arc_value s.board ≡ arc_value board)) passes.items v.items) }
+    ensures { IfOk result
+        (λ v. Pairs (λ p s. (s.pass.value ≡ p) × (arc_value s.board ≡ arc_value board)) passes.items v.items) }
 {
     let mut passes = passes;
     let mut places = Vec::with_capacity(alloc, passes.len())?;

@@ -16,8 +16,8 @@ pub extern "C" fn nidzaru_board_24_make(
     limit: u64,
     places: &mut [four_slot_place_24::Handle],
 ) -> u32
-    ensures { IsBoardMake (λ h. h.live) (λ h. h.loose.side) 33 (λ s. record { it = s }) ⟦<FourSlotSeat24 as Posts<Record24>>⟧.is_made
-        limit places.old places.new first.now result }
+    ensures { IsBoardMake (λ h. h.live) (λ h. h.loose.side) 33 (λ s. record { it = s })
+        ⟦<FourSlotSeat24 as Posts<Record24>>⟧.is_made limit places.old places.new first.now result }
 {
     make_places::<FourSlotPlace24, four_slot_place_24::Handle, Record24, FourSlotSeat24>(
         alloc, first, limit, places,
@@ -30,8 +30,10 @@ pub extern "C" fn nidzaru_board_24_write(
     item: &Record24,
     stamp: &mut Mark,
 ) -> u32
-    ensures { IsBoardWrite 33 (λ s. record { it = s }) ⟦<FourSlotSeat24 as Posts<Record24>>⟧.has_posted ⟦<FourSlotSeat24 as Posts<Record24>>⟧.is_refused
-        (holding place.old.live place.old.loose.side) (holding place.new.live place.new.loose.side) item.now stamp.old stamp.new result }
+    ensures { IsBoardWrite 33 (λ s. record { it = s }) ⟦<FourSlotSeat24 as Posts<Record24>>⟧.has_posted
+        ⟦<FourSlotSeat24 as Posts<Record24>>⟧.is_refused
+        (holding place.old.live place.old.loose.side) (holding place.new.live place.new.loose.side)
+        item.now stamp.old stamp.new result }
 {
     write_place::<FourSlotPlace24, four_slot_place_24::Loose, Record24, FourSlotSeat24>(
         33,
@@ -49,7 +51,8 @@ pub extern "C" fn nidzaru_board_24_read(
     stamp: &mut Mark,
 ) -> u32
     ensures { IsBoardRead 33 (λ s. record { it = s }) ⟦<FourSlotSeat24 as Posts<Record24>>⟧.has_seen
-        (holding place.old.live place.old.loose.side) (holding place.new.live place.new.loose.side) item.old item.new stamp.old stamp.new result }
+        (holding place.old.live place.old.loose.side) (holding place.new.live place.new.loose.side)
+        item.old item.new stamp.old stamp.new result }
 {
     read_place::<FourSlotPlace24, four_slot_place_24::Loose, Record24, FourSlotSeat24>(
         33,
@@ -68,7 +71,8 @@ pub extern "C" fn nidzaru_board_24_read_since(
     stamp: &mut Mark,
 ) -> u32
     ensures { IsBoardReadSince 33 (λ s. record { it = s }) ⟦<FourSlotSeat24 as Posts<Record24>>⟧.has_seen
-        (holding place.old.live place.old.loose.side) (holding place.new.live place.new.loose.side) least.now item.old item.new stamp.old stamp.new result }
+        (holding place.old.live place.old.loose.side) (holding place.new.live place.new.loose.side)
+        least.now item.old item.new stamp.old stamp.new result }
 {
     read_place_since::<FourSlotPlace24, four_slot_place_24::Loose, Record24, FourSlotSeat24>(
         33,
@@ -82,7 +86,8 @@ pub extern "C" fn nidzaru_board_24_read_since(
 
 #[unsafe(no_mangle)]
 pub extern "C" fn nidzaru_board_24_end(alloc: Global, place: &mut four_slot_place_24::Handle) -> u32
-    ensures { IsEnd 33 (holding place.old.live place.old.loose.side) (holding place.new.live place.new.loose.side) result }
+    ensures { IsEnd 33 (holding place.old.live place.old.loose.side)
+        (holding place.new.live place.new.loose.side) result }
 {
     end::<FourSlotPlace24, four_slot_place_24::Handle>(alloc, place)
 }

@@ -16,8 +16,8 @@ pub extern "C" fn nidzaru_board_256_make(
     limit: u64,
     places: &mut [four_slot_place_256::Handle],
 ) -> u32
-    ensures { IsBoardMake (λ h. h.live) (λ h. h.loose.side) 34 (λ s. record { it = s }) ⟦<FourSlotSeat256 as Posts<Record256>>⟧.is_made
-        limit places.old places.new first.now result }
+    ensures { IsBoardMake (λ h. h.live) (λ h. h.loose.side) 34 (λ s. record { it = s })
+        ⟦<FourSlotSeat256 as Posts<Record256>>⟧.is_made limit places.old places.new first.now result }
 {
     make_places::<FourSlotPlace256, four_slot_place_256::Handle, Record256, FourSlotSeat256>(
         alloc, first, limit, places,
@@ -30,8 +30,10 @@ pub extern "C" fn nidzaru_board_256_write(
     item: &Record256,
     stamp: &mut Mark,
 ) -> u32
-    ensures { IsBoardWrite 34 (λ s. record { it = s }) ⟦<FourSlotSeat256 as Posts<Record256>>⟧.has_posted ⟦<FourSlotSeat256 as Posts<Record256>>⟧.is_refused
-        (holding place.old.live place.old.loose.side) (holding place.new.live place.new.loose.side) item.now stamp.old stamp.new result }
+    ensures { IsBoardWrite 34 (λ s. record { it = s }) ⟦<FourSlotSeat256 as Posts<Record256>>⟧.has_posted
+        ⟦<FourSlotSeat256 as Posts<Record256>>⟧.is_refused
+        (holding place.old.live place.old.loose.side) (holding place.new.live place.new.loose.side)
+        item.now stamp.old stamp.new result }
 {
     write_place::<FourSlotPlace256, four_slot_place_256::Loose, Record256, FourSlotSeat256>(
         34,
@@ -49,7 +51,8 @@ pub extern "C" fn nidzaru_board_256_read(
     stamp: &mut Mark,
 ) -> u32
     ensures { IsBoardRead 34 (λ s. record { it = s }) ⟦<FourSlotSeat256 as Posts<Record256>>⟧.has_seen
-        (holding place.old.live place.old.loose.side) (holding place.new.live place.new.loose.side) item.old item.new stamp.old stamp.new result }
+        (holding place.old.live place.old.loose.side) (holding place.new.live place.new.loose.side)
+        item.old item.new stamp.old stamp.new result }
 {
     read_place::<FourSlotPlace256, four_slot_place_256::Loose, Record256, FourSlotSeat256>(
         34,
@@ -68,7 +71,8 @@ pub extern "C" fn nidzaru_board_256_read_since(
     stamp: &mut Mark,
 ) -> u32
     ensures { IsBoardReadSince 34 (λ s. record { it = s }) ⟦<FourSlotSeat256 as Posts<Record256>>⟧.has_seen
-        (holding place.old.live place.old.loose.side) (holding place.new.live place.new.loose.side) least.now item.old item.new stamp.old stamp.new result }
+        (holding place.old.live place.old.loose.side) (holding place.new.live place.new.loose.side)
+        least.now item.old item.new stamp.old stamp.new result }
 {
     read_place_since::<FourSlotPlace256, four_slot_place_256::Loose, Record256, FourSlotSeat256>(
         34,
@@ -85,7 +89,8 @@ pub extern "C" fn nidzaru_board_256_end(
     alloc: Global,
     place: &mut four_slot_place_256::Handle,
 ) -> u32
-    ensures { IsEnd 34 (holding place.old.live place.old.loose.side) (holding place.new.live place.new.loose.side) result }
+    ensures { IsEnd 34 (holding place.old.live place.old.loose.side)
+        (holding place.new.live place.new.loose.side) result }
 {
     end::<FourSlotPlace256, four_slot_place_256::Handle>(alloc, place)
 }

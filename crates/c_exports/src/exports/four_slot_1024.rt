@@ -17,7 +17,8 @@ pub extern "C" fn nidzaru_1024_make(
 ) -> u32
     ensures { IsMake (17, 18) (λ p. record { it = p }) (λ g. record { it = g }) IsMade
         (holding writer.old.live writer.old.loose.side) (holding reader.old.live reader.old.loose.side)
-        (holding writer.new.live writer.new.loose.side) (holding reader.new.live reader.new.loose.side) first.now result }
+        (holding writer.new.live writer.new.loose.side) (holding reader.new.live reader.new.loose.side)
+        first.now result }
 {
     make::<
         FourSlotWriter1024,
@@ -35,8 +36,9 @@ pub extern "C" fn nidzaru_1024_write(
     writer: &mut four_slot_writer_1024::Handle,
     item: &Record1024,
 ) -> u32
-    ensures { IsWrite 17 (λ p. record { it = p }) (λ p. p.number) HasWritten (holding writer.old.live writer.old.loose.side)
-        (holding writer.new.live writer.new.loose.side) item.now result }
+    ensures { IsWrite 17 (λ p. record { it = p }) (λ p. p.number) HasWritten
+        (holding writer.old.live writer.old.loose.side) (holding writer.new.live writer.new.loose.side)
+        item.now result }
 {
     write::<
         FourSlotWriter1024,
@@ -84,7 +86,8 @@ pub extern "C" fn nidzaru_1024_end_writer(
     alloc: Global,
     writer: &mut four_slot_writer_1024::Handle,
 ) -> u32
-    ensures { IsEnd 17 (holding writer.old.live writer.old.loose.side) (holding writer.new.live writer.new.loose.side) result }
+    ensures { IsEnd 17 (holding writer.old.live writer.old.loose.side)
+        (holding writer.new.live writer.new.loose.side) result }
 {
     end::<FourSlotWriter1024, four_slot_writer_1024::Handle>(alloc, writer)
 }
@@ -94,7 +97,8 @@ pub extern "C" fn nidzaru_1024_end_reader(
     alloc: Global,
     reader: &mut four_slot_reader_1024::Handle,
 ) -> u32
-    ensures { IsEnd 18 (holding reader.old.live reader.old.loose.side) (holding reader.new.live reader.new.loose.side) result }
+    ensures { IsEnd 18 (holding reader.old.live reader.old.loose.side)
+        (holding reader.new.live reader.new.loose.side) result }
 {
     end::<FourSlotReader1024, four_slot_reader_1024::Handle>(alloc, reader)
 }

@@ -17,7 +17,8 @@ pub extern "C" fn nidzaru_24_make(
 ) -> u32
     ensures { IsMake (5, 6) (λ p. record { it = p }) (λ g. record { it = g }) IsMade
         (holding writer.old.live writer.old.loose.side) (holding reader.old.live reader.old.loose.side)
-        (holding writer.new.live writer.new.loose.side) (holding reader.new.live reader.new.loose.side) first.now result }
+        (holding writer.new.live writer.new.loose.side) (holding reader.new.live reader.new.loose.side)
+        first.now result }
 {
     make::<
         FourSlotWriter24,
@@ -32,8 +33,9 @@ pub extern "C" fn nidzaru_24_make(
 
 #[unsafe(no_mangle)]
 pub extern "C" fn nidzaru_24_write(writer: &mut four_slot_writer_24::Handle, item: &Record24) -> u32
-    ensures { IsWrite 5 (λ p. record { it = p }) (λ p. p.number) HasWritten (holding writer.old.live writer.old.loose.side)
-        (holding writer.new.live writer.new.loose.side) item.now result }
+    ensures { IsWrite 5 (λ p. record { it = p }) (λ p. p.number) HasWritten
+        (holding writer.old.live writer.old.loose.side) (holding writer.new.live writer.new.loose.side)
+        item.now result }
 {
     write::<FourSlotWriter24, four_slot_writer_24::Loose, Record24, FourSlotWriter<Record24>>(
         5,
@@ -79,7 +81,8 @@ pub extern "C" fn nidzaru_24_end_writer(
     alloc: Global,
     writer: &mut four_slot_writer_24::Handle,
 ) -> u32
-    ensures { IsEnd 5 (holding writer.old.live writer.old.loose.side) (holding writer.new.live writer.new.loose.side) result }
+    ensures { IsEnd 5 (holding writer.old.live writer.old.loose.side)
+        (holding writer.new.live writer.new.loose.side) result }
 {
     end::<FourSlotWriter24, four_slot_writer_24::Handle>(alloc, writer)
 }
@@ -89,7 +92,8 @@ pub extern "C" fn nidzaru_24_end_reader(
     alloc: Global,
     reader: &mut four_slot_reader_24::Handle,
 ) -> u32
-    ensures { IsEnd 6 (holding reader.old.live reader.old.loose.side) (holding reader.new.live reader.new.loose.side) result }
+    ensures { IsEnd 6 (holding reader.old.live reader.old.loose.side)
+        (holding reader.new.live reader.new.loose.side) result }
 {
     end::<FourSlotReader24, four_slot_reader_24::Handle>(alloc, reader)
 }

@@ -17,7 +17,8 @@ pub extern "C" fn nidzaru_256_make(
 ) -> u32
     ensures { IsMake (13, 14) (λ p. record { it = p }) (λ g. record { it = g }) IsMade
         (holding writer.old.live writer.old.loose.side) (holding reader.old.live reader.old.loose.side)
-        (holding writer.new.live writer.new.loose.side) (holding reader.new.live reader.new.loose.side) first.now result }
+        (holding writer.new.live writer.new.loose.side) (holding reader.new.live reader.new.loose.side)
+        first.now result }
 {
     make::<
         FourSlotWriter256,
@@ -35,8 +36,9 @@ pub extern "C" fn nidzaru_256_write(
     writer: &mut four_slot_writer_256::Handle,
     item: &Record256,
 ) -> u32
-    ensures { IsWrite 13 (λ p. record { it = p }) (λ p. p.number) HasWritten (holding writer.old.live writer.old.loose.side)
-        (holding writer.new.live writer.new.loose.side) item.now result }
+    ensures { IsWrite 13 (λ p. record { it = p }) (λ p. p.number) HasWritten
+        (holding writer.old.live writer.old.loose.side) (holding writer.new.live writer.new.loose.side)
+        item.now result }
 {
     write::<FourSlotWriter256, four_slot_writer_256::Loose, Record256, FourSlotWriter<Record256>>(
         13,
@@ -85,7 +87,8 @@ pub extern "C" fn nidzaru_256_end_writer(
     alloc: Global,
     writer: &mut four_slot_writer_256::Handle,
 ) -> u32
-    ensures { IsEnd 13 (holding writer.old.live writer.old.loose.side) (holding writer.new.live writer.new.loose.side) result }
+    ensures { IsEnd 13 (holding writer.old.live writer.old.loose.side)
+        (holding writer.new.live writer.new.loose.side) result }
 {
     end::<FourSlotWriter256, four_slot_writer_256::Handle>(alloc, writer)
 }
@@ -95,7 +98,8 @@ pub extern "C" fn nidzaru_256_end_reader(
     alloc: Global,
     reader: &mut four_slot_reader_256::Handle,
 ) -> u32
-    ensures { IsEnd 14 (holding reader.old.live reader.old.loose.side) (holding reader.new.live reader.new.loose.side) result }
+    ensures { IsEnd 14 (holding reader.old.live reader.old.loose.side)
+        (holding reader.new.live reader.new.loose.side) result }
 {
     end::<FourSlotReader256, four_slot_reader_256::Handle>(alloc, reader)
 }

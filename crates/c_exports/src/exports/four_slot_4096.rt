@@ -17,7 +17,8 @@ pub extern "C" fn nidzaru_4096_make(
 ) -> u32
     ensures { IsMake (21, 22) (λ p. record { it = p }) (λ g. record { it = g }) IsMade
         (holding writer.old.live writer.old.loose.side) (holding reader.old.live reader.old.loose.side)
-        (holding writer.new.live writer.new.loose.side) (holding reader.new.live reader.new.loose.side) first.now result }
+        (holding writer.new.live writer.new.loose.side) (holding reader.new.live reader.new.loose.side)
+        first.now result }
 {
     make::<
         FourSlotWriter4096,
@@ -35,8 +36,9 @@ pub extern "C" fn nidzaru_4096_write(
     writer: &mut four_slot_writer_4096::Handle,
     item: &Record4096,
 ) -> u32
-    ensures { IsWrite 21 (λ p. record { it = p }) (λ p. p.number) HasWritten (holding writer.old.live writer.old.loose.side)
-        (holding writer.new.live writer.new.loose.side) item.now result }
+    ensures { IsWrite 21 (λ p. record { it = p }) (λ p. p.number) HasWritten
+        (holding writer.old.live writer.old.loose.side) (holding writer.new.live writer.new.loose.side)
+        item.now result }
 {
     write::<
         FourSlotWriter4096,
@@ -84,7 +86,8 @@ pub extern "C" fn nidzaru_4096_end_writer(
     alloc: Global,
     writer: &mut four_slot_writer_4096::Handle,
 ) -> u32
-    ensures { IsEnd 21 (holding writer.old.live writer.old.loose.side) (holding writer.new.live writer.new.loose.side) result }
+    ensures { IsEnd 21 (holding writer.old.live writer.old.loose.side)
+        (holding writer.new.live writer.new.loose.side) result }
 {
     end::<FourSlotWriter4096, four_slot_writer_4096::Handle>(alloc, writer)
 }
@@ -94,7 +97,8 @@ pub extern "C" fn nidzaru_4096_end_reader(
     alloc: Global,
     reader: &mut four_slot_reader_4096::Handle,
 ) -> u32
-    ensures { IsEnd 22 (holding reader.old.live reader.old.loose.side) (holding reader.new.live reader.new.loose.side) result }
+    ensures { IsEnd 22 (holding reader.old.live reader.old.loose.side)
+        (holding reader.new.live reader.new.loose.side) result }
 {
     end::<FourSlotReader4096, four_slot_reader_4096::Handle>(alloc, reader)
 }

@@ -17,7 +17,8 @@ pub extern "C" fn nidzaru_64_make(
 ) -> u32
     ensures { IsMake (9, 10) (λ p. record { it = p }) (λ g. record { it = g }) IsMade
         (holding writer.old.live writer.old.loose.side) (holding reader.old.live reader.old.loose.side)
-        (holding writer.new.live writer.new.loose.side) (holding reader.new.live reader.new.loose.side) first.now result }
+        (holding writer.new.live writer.new.loose.side) (holding reader.new.live reader.new.loose.side)
+        first.now result }
 {
     make::<
         FourSlotWriter64,
@@ -32,8 +33,9 @@ pub extern "C" fn nidzaru_64_make(
 
 #[unsafe(no_mangle)]
 pub extern "C" fn nidzaru_64_write(writer: &mut four_slot_writer_64::Handle, item: &Record64) -> u32
-    ensures { IsWrite 9 (λ p. record { it = p }) (λ p. p.number) HasWritten (holding writer.old.live writer.old.loose.side)
-        (holding writer.new.live writer.new.loose.side) item.now result }
+    ensures { IsWrite 9 (λ p. record { it = p }) (λ p. p.number) HasWritten
+        (holding writer.old.live writer.old.loose.side) (holding writer.new.live writer.new.loose.side)
+        item.now result }
 {
     write::<FourSlotWriter64, four_slot_writer_64::Loose, Record64, FourSlotWriter<Record64>>(
         9,
@@ -79,7 +81,8 @@ pub extern "C" fn nidzaru_64_end_writer(
     alloc: Global,
     writer: &mut four_slot_writer_64::Handle,
 ) -> u32
-    ensures { IsEnd 9 (holding writer.old.live writer.old.loose.side) (holding writer.new.live writer.new.loose.side) result }
+    ensures { IsEnd 9 (holding writer.old.live writer.old.loose.side)
+        (holding writer.new.live writer.new.loose.side) result }
 {
     end::<FourSlotWriter64, four_slot_writer_64::Handle>(alloc, writer)
 }
@@ -89,7 +92,8 @@ pub extern "C" fn nidzaru_64_end_reader(
     alloc: Global,
     reader: &mut four_slot_reader_64::Handle,
 ) -> u32
-    ensures { IsEnd 10 (holding reader.old.live reader.old.loose.side) (holding reader.new.live reader.new.loose.side) result }
+    ensures { IsEnd 10 (holding reader.old.live reader.old.loose.side)
+        (holding reader.new.live reader.new.loose.side) result }
 {
     end::<FourSlotReader64, four_slot_reader_64::Handle>(alloc, reader)
 }

@@ -17,7 +17,8 @@ pub extern "C" fn nidzaru_65536_make(
 ) -> u32
     ensures { IsMake (25, 26) (λ p. record { it = p }) (λ g. record { it = g }) IsMade
         (holding writer.old.live writer.old.loose.side) (holding reader.old.live reader.old.loose.side)
-        (holding writer.new.live writer.new.loose.side) (holding reader.new.live reader.new.loose.side) first.now result }
+        (holding writer.new.live writer.new.loose.side) (holding reader.new.live reader.new.loose.side)
+        first.now result }
 {
     make::<
         FourSlotWriter65536,
@@ -35,8 +36,9 @@ pub extern "C" fn nidzaru_65536_write(
     writer: &mut four_slot_writer_65536::Handle,
     item: &Record65536,
 ) -> u32
-    ensures { IsWrite 25 (λ p. record { it = p }) (λ p. p.number) HasWritten (holding writer.old.live writer.old.loose.side)
-        (holding writer.new.live writer.new.loose.side) item.now result }
+    ensures { IsWrite 25 (λ p. record { it = p }) (λ p. p.number) HasWritten
+        (holding writer.old.live writer.old.loose.side) (holding writer.new.live writer.new.loose.side)
+        item.now result }
 {
     write::<
         FourSlotWriter65536,
@@ -84,7 +86,8 @@ pub extern "C" fn nidzaru_65536_end_writer(
     alloc: Global,
     writer: &mut four_slot_writer_65536::Handle,
 ) -> u32
-    ensures { IsEnd 25 (holding writer.old.live writer.old.loose.side) (holding writer.new.live writer.new.loose.side) result }
+    ensures { IsEnd 25 (holding writer.old.live writer.old.loose.side)
+        (holding writer.new.live writer.new.loose.side) result }
 {
     end::<FourSlotWriter65536, four_slot_writer_65536::Handle>(alloc, writer)
 }
@@ -94,7 +97,8 @@ pub extern "C" fn nidzaru_65536_end_reader(
     alloc: Global,
     reader: &mut four_slot_reader_65536::Handle,
 ) -> u32
-    ensures { IsEnd 26 (holding reader.old.live reader.old.loose.side) (holding reader.new.live reader.new.loose.side) result }
+    ensures { IsEnd 26 (holding reader.old.live reader.old.loose.side)
+        (holding reader.new.live reader.new.loose.side) result }
 {
     end::<FourSlotReader65536, four_slot_reader_65536::Handle>(alloc, reader)
 }

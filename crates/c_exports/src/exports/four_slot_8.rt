@@ -17,7 +17,8 @@ pub extern "C" fn nidzaru_8_make(
 ) -> u32
     ensures { IsMake (1, 2) (λ p. record { it = p }) (λ g. record { it = g }) IsMade
         (holding writer.old.live writer.old.loose.side) (holding reader.old.live reader.old.loose.side)
-        (holding writer.new.live writer.new.loose.side) (holding reader.new.live reader.new.loose.side) first.now result }
+        (holding writer.new.live writer.new.loose.side) (holding reader.new.live reader.new.loose.side)
+        first.now result }
 {
     make::<
         FourSlotWriter8,
@@ -32,8 +33,9 @@ pub extern "C" fn nidzaru_8_make(
 
 #[unsafe(no_mangle)]
 pub extern "C" fn nidzaru_8_write(writer: &mut four_slot_writer_8::Handle, item: &Record8) -> u32
-    ensures { IsWrite 1 (λ p. record { it = p }) (λ p. p.number) HasWritten (holding writer.old.live writer.old.loose.side)
-        (holding writer.new.live writer.new.loose.side) item.now result }
+    ensures { IsWrite 1 (λ p. record { it = p }) (λ p. p.number) HasWritten
+        (holding writer.old.live writer.old.loose.side) (holding writer.new.live writer.new.loose.side)
+        item.now result }
 {
     write::<FourSlotWriter8, four_slot_writer_8::Loose, Record8, FourSlotWriter<Record8>>(
         1,
@@ -79,7 +81,8 @@ pub extern "C" fn nidzaru_8_end_writer(
     alloc: Global,
     writer: &mut four_slot_writer_8::Handle,
 ) -> u32
-    ensures { IsEnd 1 (holding writer.old.live writer.old.loose.side) (holding writer.new.live writer.new.loose.side) result }
+    ensures { IsEnd 1 (holding writer.old.live writer.old.loose.side)
+        (holding writer.new.live writer.new.loose.side) result }
 {
     end::<FourSlotWriter8, four_slot_writer_8::Handle>(alloc, writer)
 }
@@ -89,7 +92,8 @@ pub extern "C" fn nidzaru_8_end_reader(
     alloc: Global,
     reader: &mut four_slot_reader_8::Handle,
 ) -> u32
-    ensures { IsEnd 2 (holding reader.old.live reader.old.loose.side) (holding reader.new.live reader.new.loose.side) result }
+    ensures { IsEnd 2 (holding reader.old.live reader.old.loose.side)
+        (holding reader.new.live reader.new.loose.side) result }
 {
     end::<FourSlotReader8, four_slot_reader_8::Handle>(alloc, reader)
 }

@@ -19,7 +19,8 @@ pub extern "C" fn nidzaru_triple_1024_make(
 ) -> u32
     ensures { IsMake (19, 20) (λ p. record { it = p }) (λ g. record { it = g }) IsMade
         (holding writer.old.live writer.old.loose.side) (holding reader.old.live reader.old.loose.side)
-        (holding writer.new.live writer.new.loose.side) (holding reader.new.live reader.new.loose.side) first.now result }
+        (holding writer.new.live writer.new.loose.side) (holding reader.new.live reader.new.loose.side)
+        first.now result }
 {
     make::<
         TripleWriter1024,
@@ -37,8 +38,9 @@ pub extern "C" fn nidzaru_triple_1024_write(
     writer: &mut triple_writer_1024::Handle,
     item: &Record1024,
 ) -> u32
-    ensures { IsWrite 19 (λ p. record { it = p }) (λ p. p.number) HasWritten (holding writer.old.live writer.old.loose.side)
-        (holding writer.new.live writer.new.loose.side) item.now result }
+    ensures { IsWrite 19 (λ p. record { it = p }) (λ p. p.number) HasWritten
+        (holding writer.old.live writer.old.loose.side) (holding writer.new.live writer.new.loose.side)
+        item.now result }
 {
     write::<TripleWriter1024, triple_writer_1024::Loose, Record1024, TripleWriter<Record1024>>(
         19,
@@ -87,7 +89,8 @@ pub extern "C" fn nidzaru_triple_1024_hold<'a>(
     reader: &'a mut triple_reader_1024::Handle,
     at: &mut &'a Record1024,
 ) -> u32
-    ensures { IsHold 20 (λ g. record { it = g }) at_hand (holding reader.old.live reader.old.loose.side) at.old.now at.new.now result }
+    ensures { IsHold 20 (λ g. record { it = g }) at_hand
+        (holding reader.old.live reader.old.loose.side) at.old.now at.new.now result }
 {
     let live = reader.live;
     hold::<TripleReader1024, triple_reader_1024::Loose, Record1024>(
@@ -103,7 +106,8 @@ pub extern "C" fn nidzaru_triple_1024_loan<'a>(
     writer: &'a mut triple_writer_1024::Handle,
     at: &mut &'a mut Record1024,
 ) -> u32
-    ensures { IsHold 19 (λ p. record { it = p }) in_slot (holding writer.old.live writer.old.loose.side) at.old.now at.new.now result }
+    ensures { IsHold 19 (λ p. record { it = p }) in_slot
+        (holding writer.old.live writer.old.loose.side) at.old.now at.new.now result }
 {
     let live = writer.live;
     match slot::<TripleWriter1024, triple_writer_1024::Loose, Record1024>(
@@ -121,8 +125,8 @@ pub extern "C" fn nidzaru_triple_1024_loan<'a>(
 
 #[unsafe(no_mangle)]
 pub extern "C" fn nidzaru_triple_1024_publish(writer: &mut triple_writer_1024::Handle) -> u32
-    ensures { IsPublish 19 (λ p. record { it = p }) (λ p. p.number) HasPublished (holding writer.old.live writer.old.loose.side)
-        (holding writer.new.live writer.new.loose.side) result }
+    ensures { IsPublish 19 (λ p. record { it = p }) (λ p. p.number) HasPublished
+        (holding writer.old.live writer.old.loose.side) (holding writer.new.live writer.new.loose.side) result }
 {
     publish::<TripleWriter1024, triple_writer_1024::Loose, Record1024>(
         19,
@@ -136,7 +140,8 @@ pub extern "C" fn nidzaru_triple_1024_end_writer(
     alloc: Global,
     writer: &mut triple_writer_1024::Handle,
 ) -> u32
-    ensures { IsEnd 19 (holding writer.old.live writer.old.loose.side) (holding writer.new.live writer.new.loose.side) result }
+    ensures { IsEnd 19 (holding writer.old.live writer.old.loose.side)
+        (holding writer.new.live writer.new.loose.side) result }
 {
     end::<TripleWriter1024, triple_writer_1024::Handle>(alloc, writer)
 }
@@ -146,7 +151,8 @@ pub extern "C" fn nidzaru_triple_1024_end_reader(
     alloc: Global,
     reader: &mut triple_reader_1024::Handle,
 ) -> u32
-    ensures { IsEnd 20 (holding reader.old.live reader.old.loose.side) (holding reader.new.live reader.new.loose.side) result }
+    ensures { IsEnd 20 (holding reader.old.live reader.old.loose.side)
+        (holding reader.new.live reader.new.loose.side) result }
 {
     end::<TripleReader1024, triple_reader_1024::Handle>(alloc, reader)
 }

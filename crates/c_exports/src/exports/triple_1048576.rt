@@ -19,7 +19,8 @@ pub extern "C" fn nidzaru_triple_1048576_make(
 ) -> u32
     ensures { IsMake (31, 32) (λ p. record { it = p }) (λ g. record { it = g }) IsMade
         (holding writer.old.live writer.old.loose.side) (holding reader.old.live reader.old.loose.side)
-        (holding writer.new.live writer.new.loose.side) (holding reader.new.live reader.new.loose.side) first.now result }
+        (holding writer.new.live writer.new.loose.side) (holding reader.new.live reader.new.loose.side)
+        first.now result }
 {
     make::<
         TripleWriter1048576,
@@ -37,8 +38,9 @@ pub extern "C" fn nidzaru_triple_1048576_write(
     writer: &mut triple_writer_1048576::Handle,
     item: &Record1048576,
 ) -> u32
-    ensures { IsWrite 31 (λ p. record { it = p }) (λ p. p.number) HasWritten (holding writer.old.live writer.old.loose.side)
-        (holding writer.new.live writer.new.loose.side) item.now result }
+    ensures { IsWrite 31 (λ p. record { it = p }) (λ p. p.number) HasWritten
+        (holding writer.old.live writer.old.loose.side) (holding writer.new.live writer.new.loose.side)
+        item.now result }
 {
     write::<
         TripleWriter1048576,
@@ -86,7 +88,8 @@ pub extern "C" fn nidzaru_triple_1048576_hold<'a>(
     reader: &'a mut triple_reader_1048576::Handle,
     at: &mut &'a Record1048576,
 ) -> u32
-    ensures { IsHold 32 (λ g. record { it = g }) at_hand (holding reader.old.live reader.old.loose.side) at.old.now at.new.now result }
+    ensures { IsHold 32 (λ g. record { it = g }) at_hand
+        (holding reader.old.live reader.old.loose.side) at.old.now at.new.now result }
 {
     let live = reader.live;
     hold::<TripleReader1048576, triple_reader_1048576::Loose, Record1048576>(
@@ -102,7 +105,8 @@ pub extern "C" fn nidzaru_triple_1048576_loan<'a>(
     writer: &'a mut triple_writer_1048576::Handle,
     at: &mut &'a mut Record1048576,
 ) -> u32
-    ensures { IsHold 31 (λ p. record { it = p }) in_slot (holding writer.old.live writer.old.loose.side) at.old.now at.new.now result }
+    ensures { IsHold 31 (λ p. record { it = p }) in_slot
+        (holding writer.old.live writer.old.loose.side) at.old.now at.new.now result }
 {
     let live = writer.live;
     match slot::<TripleWriter1048576, triple_writer_1048576::Loose, Record1048576>(
@@ -120,8 +124,8 @@ pub extern "C" fn nidzaru_triple_1048576_loan<'a>(
 
 #[unsafe(no_mangle)]
 pub extern "C" fn nidzaru_triple_1048576_publish(writer: &mut triple_writer_1048576::Handle) -> u32
-    ensures { IsPublish 31 (λ p. record { it = p }) (λ p. p.number) HasPublished (holding writer.old.live writer.old.loose.side)
-        (holding writer.new.live writer.new.loose.side) result }
+    ensures { IsPublish 31 (λ p. record { it = p }) (λ p. p.number) HasPublished
+        (holding writer.old.live writer.old.loose.side) (holding writer.new.live writer.new.loose.side) result }
 {
     publish::<TripleWriter1048576, triple_writer_1048576::Loose, Record1048576>(
         31,
@@ -135,7 +139,8 @@ pub extern "C" fn nidzaru_triple_1048576_end_writer(
     alloc: Global,
     writer: &mut triple_writer_1048576::Handle,
 ) -> u32
-    ensures { IsEnd 31 (holding writer.old.live writer.old.loose.side) (holding writer.new.live writer.new.loose.side) result }
+    ensures { IsEnd 31 (holding writer.old.live writer.old.loose.side)
+        (holding writer.new.live writer.new.loose.side) result }
 {
     end::<TripleWriter1048576, triple_writer_1048576::Handle>(alloc, writer)
 }
@@ -145,7 +150,8 @@ pub extern "C" fn nidzaru_triple_1048576_end_reader(
     alloc: Global,
     reader: &mut triple_reader_1048576::Handle,
 ) -> u32
-    ensures { IsEnd 32 (holding reader.old.live reader.old.loose.side) (holding reader.new.live reader.new.loose.side) result }
+    ensures { IsEnd 32 (holding reader.old.live reader.old.loose.side)
+        (holding reader.new.live reader.new.loose.side) result }
 {
     end::<TripleReader1048576, triple_reader_1048576::Handle>(alloc, reader)
 }

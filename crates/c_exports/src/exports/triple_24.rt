@@ -19,7 +19,8 @@ pub extern "C" fn nidzaru_triple_24_make(
 ) -> u32
     ensures { IsMake (7, 8) (λ p. record { it = p }) (λ g. record { it = g }) IsMade
         (holding writer.old.live writer.old.loose.side) (holding reader.old.live reader.old.loose.side)
-        (holding writer.new.live writer.new.loose.side) (holding reader.new.live reader.new.loose.side) first.now result }
+        (holding writer.new.live writer.new.loose.side) (holding reader.new.live reader.new.loose.side)
+        first.now result }
 {
     make::<
         TripleWriter24,
@@ -37,8 +38,9 @@ pub extern "C" fn nidzaru_triple_24_write(
     writer: &mut triple_writer_24::Handle,
     item: &Record24,
 ) -> u32
-    ensures { IsWrite 7 (λ p. record { it = p }) (λ p. p.number) HasWritten (holding writer.old.live writer.old.loose.side)
-        (holding writer.new.live writer.new.loose.side) item.now result }
+    ensures { IsWrite 7 (λ p. record { it = p }) (λ p. p.number) HasWritten
+        (holding writer.old.live writer.old.loose.side) (holding writer.new.live writer.new.loose.side)
+        item.now result }
 {
     write::<TripleWriter24, triple_writer_24::Loose, Record24, TripleWriter<Record24>>(
         7,
@@ -87,7 +89,8 @@ pub extern "C" fn nidzaru_triple_24_hold<'a>(
     reader: &'a mut triple_reader_24::Handle,
     at: &mut &'a Record24,
 ) -> u32
-    ensures { IsHold 8 (λ g. record { it = g }) at_hand (holding reader.old.live reader.old.loose.side) at.old.now at.new.now result }
+    ensures { IsHold 8 (λ g. record { it = g }) at_hand
+        (holding reader.old.live reader.old.loose.side) at.old.now at.new.now result }
 {
     let live = reader.live;
     hold::<TripleReader24, triple_reader_24::Loose, Record24>(&mut reader.loose, 8, live, at).status
@@ -98,7 +101,8 @@ pub extern "C" fn nidzaru_triple_24_loan<'a>(
     writer: &'a mut triple_writer_24::Handle,
     at: &mut &'a mut Record24,
 ) -> u32
-    ensures { IsHold 7 (λ p. record { it = p }) in_slot (holding writer.old.live writer.old.loose.side) at.old.now at.new.now result }
+    ensures { IsHold 7 (λ p. record { it = p }) in_slot
+        (holding writer.old.live writer.old.loose.side) at.old.now at.new.now result }
 {
     let live = writer.live;
     match slot::<TripleWriter24, triple_writer_24::Loose, Record24>(&mut writer.loose, 7, live) {
@@ -112,8 +116,8 @@ pub extern "C" fn nidzaru_triple_24_loan<'a>(
 
 #[unsafe(no_mangle)]
 pub extern "C" fn nidzaru_triple_24_publish(writer: &mut triple_writer_24::Handle) -> u32
-    ensures { IsPublish 7 (λ p. record { it = p }) (λ p. p.number) HasPublished (holding writer.old.live writer.old.loose.side)
-        (holding writer.new.live writer.new.loose.side) result }
+    ensures { IsPublish 7 (λ p. record { it = p }) (λ p. p.number) HasPublished
+        (holding writer.old.live writer.old.loose.side) (holding writer.new.live writer.new.loose.side) result }
 {
     publish::<TripleWriter24, triple_writer_24::Loose, Record24>(
         7,
@@ -127,7 +131,8 @@ pub extern "C" fn nidzaru_triple_24_end_writer(
     alloc: Global,
     writer: &mut triple_writer_24::Handle,
 ) -> u32
-    ensures { IsEnd 7 (holding writer.old.live writer.old.loose.side) (holding writer.new.live writer.new.loose.side) result }
+    ensures { IsEnd 7 (holding writer.old.live writer.old.loose.side)
+        (holding writer.new.live writer.new.loose.side) result }
 {
     end::<TripleWriter24, triple_writer_24::Handle>(alloc, writer)
 }
@@ -137,7 +142,8 @@ pub extern "C" fn nidzaru_triple_24_end_reader(
     alloc: Global,
     reader: &mut triple_reader_24::Handle,
 ) -> u32
-    ensures { IsEnd 8 (holding reader.old.live reader.old.loose.side) (holding reader.new.live reader.new.loose.side) result }
+    ensures { IsEnd 8 (holding reader.old.live reader.old.loose.side)
+        (holding reader.new.live reader.new.loose.side) result }
 {
     end::<TripleReader24, triple_reader_24::Handle>(alloc, reader)
 }

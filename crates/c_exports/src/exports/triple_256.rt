@@ -19,7 +19,8 @@ pub extern "C" fn nidzaru_triple_256_make(
 ) -> u32
     ensures { IsMake (15, 16) (λ p. record { it = p }) (λ g. record { it = g }) IsMade
         (holding writer.old.live writer.old.loose.side) (holding reader.old.live reader.old.loose.side)
-        (holding writer.new.live writer.new.loose.side) (holding reader.new.live reader.new.loose.side) first.now result }
+        (holding writer.new.live writer.new.loose.side) (holding reader.new.live reader.new.loose.side)
+        first.now result }
 {
     make::<
         TripleWriter256,
@@ -37,8 +38,9 @@ pub extern "C" fn nidzaru_triple_256_write(
     writer: &mut triple_writer_256::Handle,
     item: &Record256,
 ) -> u32
-    ensures { IsWrite 15 (λ p. record { it = p }) (λ p. p.number) HasWritten (holding writer.old.live writer.old.loose.side)
-        (holding writer.new.live writer.new.loose.side) item.now result }
+    ensures { IsWrite 15 (λ p. record { it = p }) (λ p. p.number) HasWritten
+        (holding writer.old.live writer.old.loose.side) (holding writer.new.live writer.new.loose.side)
+        item.now result }
 {
     write::<TripleWriter256, triple_writer_256::Loose, Record256, TripleWriter<Record256>>(
         15,
@@ -87,7 +89,8 @@ pub extern "C" fn nidzaru_triple_256_hold<'a>(
     reader: &'a mut triple_reader_256::Handle,
     at: &mut &'a Record256,
 ) -> u32
-    ensures { IsHold 16 (λ g. record { it = g }) at_hand (holding reader.old.live reader.old.loose.side) at.old.now at.new.now result }
+    ensures { IsHold 16 (λ g. record { it = g }) at_hand
+        (holding reader.old.live reader.old.loose.side) at.old.now at.new.now result }
 {
     let live = reader.live;
     hold::<TripleReader256, triple_reader_256::Loose, Record256>(
@@ -103,7 +106,8 @@ pub extern "C" fn nidzaru_triple_256_loan<'a>(
     writer: &'a mut triple_writer_256::Handle,
     at: &mut &'a mut Record256,
 ) -> u32
-    ensures { IsHold 15 (λ p. record { it = p }) in_slot (holding writer.old.live writer.old.loose.side) at.old.now at.new.now result }
+    ensures { IsHold 15 (λ p. record { it = p }) in_slot
+        (holding writer.old.live writer.old.loose.side) at.old.now at.new.now result }
 {
     let live = writer.live;
     match slot::<TripleWriter256, triple_writer_256::Loose, Record256>(
@@ -121,8 +125,8 @@ pub extern "C" fn nidzaru_triple_256_loan<'a>(
 
 #[unsafe(no_mangle)]
 pub extern "C" fn nidzaru_triple_256_publish(writer: &mut triple_writer_256::Handle) -> u32
-    ensures { IsPublish 15 (λ p. record { it = p }) (λ p. p.number) HasPublished (holding writer.old.live writer.old.loose.side)
-        (holding writer.new.live writer.new.loose.side) result }
+    ensures { IsPublish 15 (λ p. record { it = p }) (λ p. p.number) HasPublished
+        (holding writer.old.live writer.old.loose.side) (holding writer.new.live writer.new.loose.side) result }
 {
     publish::<TripleWriter256, triple_writer_256::Loose, Record256>(
         15,
@@ -136,7 +140,8 @@ pub extern "C" fn nidzaru_triple_256_end_writer(
     alloc: Global,
     writer: &mut triple_writer_256::Handle,
 ) -> u32
-    ensures { IsEnd 15 (holding writer.old.live writer.old.loose.side) (holding writer.new.live writer.new.loose.side) result }
+    ensures { IsEnd 15 (holding writer.old.live writer.old.loose.side)
+        (holding writer.new.live writer.new.loose.side) result }
 {
     end::<TripleWriter256, triple_writer_256::Handle>(alloc, writer)
 }
@@ -146,7 +151,8 @@ pub extern "C" fn nidzaru_triple_256_end_reader(
     alloc: Global,
     reader: &mut triple_reader_256::Handle,
 ) -> u32
-    ensures { IsEnd 16 (holding reader.old.live reader.old.loose.side) (holding reader.new.live reader.new.loose.side) result }
+    ensures { IsEnd 16 (holding reader.old.live reader.old.loose.side)
+        (holding reader.new.live reader.new.loose.side) result }
 {
     end::<TripleReader256, triple_reader_256::Handle>(alloc, reader)
 }

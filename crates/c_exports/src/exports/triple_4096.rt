@@ -19,7 +19,8 @@ pub extern "C" fn nidzaru_triple_4096_make(
 ) -> u32
     ensures { IsMake (23, 24) (λ p. record { it = p }) (λ g. record { it = g }) IsMade
         (holding writer.old.live writer.old.loose.side) (holding reader.old.live reader.old.loose.side)
-        (holding writer.new.live writer.new.loose.side) (holding reader.new.live reader.new.loose.side) first.now result }
+        (holding writer.new.live writer.new.loose.side) (holding reader.new.live reader.new.loose.side)
+        first.now result }
 {
     make::<
         TripleWriter4096,
@@ -37,8 +38,9 @@ pub extern "C" fn nidzaru_triple_4096_write(
     writer: &mut triple_writer_4096::Handle,
     item: &Record4096,
 ) -> u32
-    ensures { IsWrite 23 (λ p. record { it = p }) (λ p. p.number) HasWritten (holding writer.old.live writer.old.loose.side)
-        (holding writer.new.live writer.new.loose.side) item.now result }
+    ensures { IsWrite 23 (λ p. record { it = p }) (λ p. p.number) HasWritten
+        (holding writer.old.live writer.old.loose.side) (holding writer.new.live writer.new.loose.side)
+        item.now result }
 {
     write::<TripleWriter4096, triple_writer_4096::Loose, Record4096, TripleWriter<Record4096>>(
         23,
@@ -87,7 +89,8 @@ pub extern "C" fn nidzaru_triple_4096_hold<'a>(
     reader: &'a mut triple_reader_4096::Handle,
     at: &mut &'a Record4096,
 ) -> u32
-    ensures { IsHold 24 (λ g. record { it = g }) at_hand (holding reader.old.live reader.old.loose.side) at.old.now at.new.now result }
+    ensures { IsHold 24 (λ g. record { it = g }) at_hand
+        (holding reader.old.live reader.old.loose.side) at.old.now at.new.now result }
 {
     let live = reader.live;
     hold::<TripleReader4096, triple_reader_4096::Loose, Record4096>(
@@ -103,7 +106,8 @@ pub extern "C" fn nidzaru_triple_4096_loan<'a>(
     writer: &'a mut triple_writer_4096::Handle,
     at: &mut &'a mut Record4096,
 ) -> u32
-    ensures { IsHold 23 (λ p. record { it = p }) in_slot (holding writer.old.live writer.old.loose.side) at.old.now at.new.now result }
+    ensures { IsHold 23 (λ p. record { it = p }) in_slot
+        (holding writer.old.live writer.old.loose.side) at.old.now at.new.now result }
 {
     let live = writer.live;
     match slot::<TripleWriter4096, triple_writer_4096::Loose, Record4096>(
@@ -121,8 +125,8 @@ pub extern "C" fn nidzaru_triple_4096_loan<'a>(
 
 #[unsafe(no_mangle)]
 pub extern "C" fn nidzaru_triple_4096_publish(writer: &mut triple_writer_4096::Handle) -> u32
-    ensures { IsPublish 23 (λ p. record { it = p }) (λ p. p.number) HasPublished (holding writer.old.live writer.old.loose.side)
-        (holding writer.new.live writer.new.loose.side) result }
+    ensures { IsPublish 23 (λ p. record { it = p }) (λ p. p.number) HasPublished
+        (holding writer.old.live writer.old.loose.side) (holding writer.new.live writer.new.loose.side) result }
 {
     publish::<TripleWriter4096, triple_writer_4096::Loose, Record4096>(
         23,
@@ -136,7 +140,8 @@ pub extern "C" fn nidzaru_triple_4096_end_writer(
     alloc: Global,
     writer: &mut triple_writer_4096::Handle,
 ) -> u32
-    ensures { IsEnd 23 (holding writer.old.live writer.old.loose.side) (holding writer.new.live writer.new.loose.side) result }
+    ensures { IsEnd 23 (holding writer.old.live writer.old.loose.side)
+        (holding writer.new.live writer.new.loose.side) result }
 {
     end::<TripleWriter4096, triple_writer_4096::Handle>(alloc, writer)
 }
@@ -146,7 +151,8 @@ pub extern "C" fn nidzaru_triple_4096_end_reader(
     alloc: Global,
     reader: &mut triple_reader_4096::Handle,
 ) -> u32
-    ensures { IsEnd 24 (holding reader.old.live reader.old.loose.side) (holding reader.new.live reader.new.loose.side) result }
+    ensures { IsEnd 24 (holding reader.old.live reader.old.loose.side)
+        (holding reader.new.live reader.new.loose.side) result }
 {
     end::<TripleReader4096, triple_reader_4096::Handle>(alloc, reader)
 }

@@ -19,7 +19,8 @@ pub extern "C" fn nidzaru_triple_64_make(
 ) -> u32
     ensures { IsMake (11, 12) (λ p. record { it = p }) (λ g. record { it = g }) IsMade
         (holding writer.old.live writer.old.loose.side) (holding reader.old.live reader.old.loose.side)
-        (holding writer.new.live writer.new.loose.side) (holding reader.new.live reader.new.loose.side) first.now result }
+        (holding writer.new.live writer.new.loose.side) (holding reader.new.live reader.new.loose.side)
+        first.now result }
 {
     make::<
         TripleWriter64,
@@ -37,8 +38,9 @@ pub extern "C" fn nidzaru_triple_64_write(
     writer: &mut triple_writer_64::Handle,
     item: &Record64,
 ) -> u32
-    ensures { IsWrite 11 (λ p. record { it = p }) (λ p. p.number) HasWritten (holding writer.old.live writer.old.loose.side)
-        (holding writer.new.live writer.new.loose.side) item.now result }
+    ensures { IsWrite 11 (λ p. record { it = p }) (λ p. p.number) HasWritten
+        (holding writer.old.live writer.old.loose.side) (holding writer.new.live writer.new.loose.side)
+        item.now result }
 {
     write::<TripleWriter64, triple_writer_64::Loose, Record64, TripleWriter<Record64>>(
         11,
@@ -87,7 +89,8 @@ pub extern "C" fn nidzaru_triple_64_hold<'a>(
     reader: &'a mut triple_reader_64::Handle,
     at: &mut &'a Record64,
 ) -> u32
-    ensures { IsHold 12 (λ g. record { it = g }) at_hand (holding reader.old.live reader.old.loose.side) at.old.now at.new.now result }
+    ensures { IsHold 12 (λ g. record { it = g }) at_hand
+        (holding reader.old.live reader.old.loose.side) at.old.now at.new.now result }
 {
     let live = reader.live;
     hold::<TripleReader64, triple_reader_64::Loose, Record64>(
@@ -103,7 +106,8 @@ pub extern "C" fn nidzaru_triple_64_loan<'a>(
     writer: &'a mut triple_writer_64::Handle,
     at: &mut &'a mut Record64,
 ) -> u32
-    ensures { IsHold 11 (λ p. record { it = p }) in_slot (holding writer.old.live writer.old.loose.side) at.old.now at.new.now result }
+    ensures { IsHold 11 (λ p. record { it = p }) in_slot
+        (holding writer.old.live writer.old.loose.side) at.old.now at.new.now result }
 {
     let live = writer.live;
     match slot::<TripleWriter64, triple_writer_64::Loose, Record64>(&mut writer.loose, 11, live) {
@@ -117,8 +121,8 @@ pub extern "C" fn nidzaru_triple_64_loan<'a>(
 
 #[unsafe(no_mangle)]
 pub extern "C" fn nidzaru_triple_64_publish(writer: &mut triple_writer_64::Handle) -> u32
-    ensures { IsPublish 11 (λ p. record { it = p }) (λ p. p.number) HasPublished (holding writer.old.live writer.old.loose.side)
-        (holding writer.new.live writer.new.loose.side) result }
+    ensures { IsPublish 11 (λ p. record { it = p }) (λ p. p.number) HasPublished
+        (holding writer.old.live writer.old.loose.side) (holding writer.new.live writer.new.loose.side) result }
 {
     publish::<TripleWriter64, triple_writer_64::Loose, Record64>(
         11,
@@ -132,7 +136,8 @@ pub extern "C" fn nidzaru_triple_64_end_writer(
     alloc: Global,
     writer: &mut triple_writer_64::Handle,
 ) -> u32
-    ensures { IsEnd 11 (holding writer.old.live writer.old.loose.side) (holding writer.new.live writer.new.loose.side) result }
+    ensures { IsEnd 11 (holding writer.old.live writer.old.loose.side)
+        (holding writer.new.live writer.new.loose.side) result }
 {
     end::<TripleWriter64, triple_writer_64::Handle>(alloc, writer)
 }
@@ -142,7 +147,8 @@ pub extern "C" fn nidzaru_triple_64_end_reader(
     alloc: Global,
     reader: &mut triple_reader_64::Handle,
 ) -> u32
-    ensures { IsEnd 12 (holding reader.old.live reader.old.loose.side) (holding reader.new.live reader.new.loose.side) result }
+    ensures { IsEnd 12 (holding reader.old.live reader.old.loose.side)
+        (holding reader.new.live reader.new.loose.side) result }
 {
     end::<TripleReader64, triple_reader_64::Handle>(alloc, reader)
 }

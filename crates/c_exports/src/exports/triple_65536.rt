@@ -19,7 +19,8 @@ pub extern "C" fn nidzaru_triple_65536_make(
 ) -> u32
     ensures { IsMake (27, 28) (λ p. record { it = p }) (λ g. record { it = g }) IsMade
         (holding writer.old.live writer.old.loose.side) (holding reader.old.live reader.old.loose.side)
-        (holding writer.new.live writer.new.loose.side) (holding reader.new.live reader.new.loose.side) first.now result }
+        (holding writer.new.live writer.new.loose.side) (holding reader.new.live reader.new.loose.side)
+        first.now result }
 {
     make::<
         TripleWriter65536,
@@ -37,8 +38,9 @@ pub extern "C" fn nidzaru_triple_65536_write(
     writer: &mut triple_writer_65536::Handle,
     item: &Record65536,
 ) -> u32
-    ensures { IsWrite 27 (λ p. record { it = p }) (λ p. p.number) HasWritten (holding writer.old.live writer.old.loose.side)
-        (holding writer.new.live writer.new.loose.side) item.now result }
+    ensures { IsWrite 27 (λ p. record { it = p }) (λ p. p.number) HasWritten
+        (holding writer.old.live writer.old.loose.side) (holding writer.new.live writer.new.loose.side)
+        item.now result }
 {
     write::<TripleWriter65536, triple_writer_65536::Loose, Record65536, TripleWriter<Record65536>>(
         27,
@@ -87,7 +89,8 @@ pub extern "C" fn nidzaru_triple_65536_hold<'a>(
     reader: &'a mut triple_reader_65536::Handle,
     at: &mut &'a Record65536,
 ) -> u32
-    ensures { IsHold 28 (λ g. record { it = g }) at_hand (holding reader.old.live reader.old.loose.side) at.old.now at.new.now result }
+    ensures { IsHold 28 (λ g. record { it = g }) at_hand
+        (holding reader.old.live reader.old.loose.side) at.old.now at.new.now result }
 {
     let live = reader.live;
     hold::<TripleReader65536, triple_reader_65536::Loose, Record65536>(
@@ -103,7 +106,8 @@ pub extern "C" fn nidzaru_triple_65536_loan<'a>(
     writer: &'a mut triple_writer_65536::Handle,
     at: &mut &'a mut Record65536,
 ) -> u32
-    ensures { IsHold 27 (λ p. record { it = p }) in_slot (holding writer.old.live writer.old.loose.side) at.old.now at.new.now result }
+    ensures { IsHold 27 (λ p. record { it = p }) in_slot
+        (holding writer.old.live writer.old.loose.side) at.old.now at.new.now result }
 {
     let live = writer.live;
     match slot::<TripleWriter65536, triple_writer_65536::Loose, Record65536>(
@@ -121,8 +125,8 @@ pub extern "C" fn nidzaru_triple_65536_loan<'a>(
 
 #[unsafe(no_mangle)]
 pub extern "C" fn nidzaru_triple_65536_publish(writer: &mut triple_writer_65536::Handle) -> u32
-    ensures { IsPublish 27 (λ p. record { it = p }) (λ p. p.number) HasPublished (holding writer.old.live writer.old.loose.side)
-        (holding writer.new.live writer.new.loose.side) result }
+    ensures { IsPublish 27 (λ p. record { it = p }) (λ p. p.number) HasPublished
+        (holding writer.old.live writer.old.loose.side) (holding writer.new.live writer.new.loose.side) result }
 {
     publish::<TripleWriter65536, triple_writer_65536::Loose, Record65536>(
         27,
@@ -136,7 +140,8 @@ pub extern "C" fn nidzaru_triple_65536_end_writer(
     alloc: Global,
     writer: &mut triple_writer_65536::Handle,
 ) -> u32
-    ensures { IsEnd 27 (holding writer.old.live writer.old.loose.side) (holding writer.new.live writer.new.loose.side) result }
+    ensures { IsEnd 27 (holding writer.old.live writer.old.loose.side)
+        (holding writer.new.live writer.new.loose.side) result }
 {
     end::<TripleWriter65536, triple_writer_65536::Handle>(alloc, writer)
 }
@@ -146,7 +151,8 @@ pub extern "C" fn nidzaru_triple_65536_end_reader(
     alloc: Global,
     reader: &mut triple_reader_65536::Handle,
 ) -> u32
-    ensures { IsEnd 28 (holding reader.old.live reader.old.loose.side) (holding reader.new.live reader.new.loose.side) result }
+    ensures { IsEnd 28 (holding reader.old.live reader.old.loose.side)
+        (holding reader.new.live reader.new.loose.side) result }
 {
     end::<TripleReader65536, triple_reader_65536::Handle>(alloc, reader)
 }

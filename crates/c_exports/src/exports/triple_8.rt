@@ -19,7 +19,8 @@ pub extern "C" fn nidzaru_triple_8_make(
 ) -> u32
     ensures { IsMake (3, 4) (λ p. record { it = p }) (λ g. record { it = g }) IsMade
         (holding writer.old.live writer.old.loose.side) (holding reader.old.live reader.old.loose.side)
-        (holding writer.new.live writer.new.loose.side) (holding reader.new.live reader.new.loose.side) first.now result }
+        (holding writer.new.live writer.new.loose.side) (holding reader.new.live reader.new.loose.side)
+        first.now result }
 {
     make::<
         TripleWriter8,
@@ -37,8 +38,9 @@ pub extern "C" fn nidzaru_triple_8_write(
     writer: &mut triple_writer_8::Handle,
     item: &Record8,
 ) -> u32
-    ensures { IsWrite 3 (λ p. record { it = p }) (λ p. p.number) HasWritten (holding writer.old.live writer.old.loose.side)
-        (holding writer.new.live writer.new.loose.side) item.now result }
+    ensures { IsWrite 3 (λ p. record { it = p }) (λ p. p.number) HasWritten
+        (holding writer.old.live writer.old.loose.side) (holding writer.new.live writer.new.loose.side)
+        item.now result }
 {
     write::<TripleWriter8, triple_writer_8::Loose, Record8, TripleWriter<Record8>>(
         3,
@@ -87,7 +89,8 @@ pub extern "C" fn nidzaru_triple_8_hold<'a>(
     reader: &'a mut triple_reader_8::Handle,
     at: &mut &'a Record8,
 ) -> u32
-    ensures { IsHold 4 (λ g. record { it = g }) at_hand (holding reader.old.live reader.old.loose.side) at.old.now at.new.now result }
+    ensures { IsHold 4 (λ g. record { it = g }) at_hand
+        (holding reader.old.live reader.old.loose.side) at.old.now at.new.now result }
 {
     let live = reader.live;
     hold::<TripleReader8, triple_reader_8::Loose, Record8>(&mut reader.loose, 4, live, at).status
@@ -98,7 +101,8 @@ pub extern "C" fn nidzaru_triple_8_loan<'a>(
     writer: &'a mut triple_writer_8::Handle,
     at: &mut &'a mut Record8,
 ) -> u32
-    ensures { IsHold 3 (λ p. record { it = p }) in_slot (holding writer.old.live writer.old.loose.side) at.old.now at.new.now result }
+    ensures { IsHold 3 (λ p. record { it = p }) in_slot
+        (holding writer.old.live writer.old.loose.side) at.old.now at.new.now result }
 {
     let live = writer.live;
     match slot::<TripleWriter8, triple_writer_8::Loose, Record8>(&mut writer.loose, 3, live) {
@@ -112,8 +116,8 @@ pub extern "C" fn nidzaru_triple_8_loan<'a>(
 
 #[unsafe(no_mangle)]
 pub extern "C" fn nidzaru_triple_8_publish(writer: &mut triple_writer_8::Handle) -> u32
-    ensures { IsPublish 3 (λ p. record { it = p }) (λ p. p.number) HasPublished (holding writer.old.live writer.old.loose.side)
-        (holding writer.new.live writer.new.loose.side) result }
+    ensures { IsPublish 3 (λ p. record { it = p }) (λ p. p.number) HasPublished
+        (holding writer.old.live writer.old.loose.side) (holding writer.new.live writer.new.loose.side) result }
 {
     publish::<TripleWriter8, triple_writer_8::Loose, Record8>(
         3,
@@ -127,7 +131,8 @@ pub extern "C" fn nidzaru_triple_8_end_writer(
     alloc: Global,
     writer: &mut triple_writer_8::Handle,
 ) -> u32
-    ensures { IsEnd 3 (holding writer.old.live writer.old.loose.side) (holding writer.new.live writer.new.loose.side) result }
+    ensures { IsEnd 3 (holding writer.old.live writer.old.loose.side)
+        (holding writer.new.live writer.new.loose.side) result }
 {
     end::<TripleWriter8, triple_writer_8::Handle>(alloc, writer)
 }
@@ -137,7 +142,8 @@ pub extern "C" fn nidzaru_triple_8_end_reader(
     alloc: Global,
     reader: &mut triple_reader_8::Handle,
 ) -> u32
-    ensures { IsEnd 4 (holding reader.old.live reader.old.loose.side) (holding reader.new.live reader.new.loose.side) result }
+    ensures { IsEnd 4 (holding reader.old.live reader.old.loose.side)
+        (holding reader.new.live reader.new.loose.side) result }
 {
     end::<TripleReader8, triple_reader_8::Handle>(alloc, reader)
 }

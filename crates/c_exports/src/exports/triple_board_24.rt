@@ -16,8 +16,8 @@ pub extern "C" fn nidzaru_triple_board_24_make(
     limit: u64,
     places: &mut [triple_place_24::Handle],
 ) -> u32
-    ensures { IsBoardMake (λ h. h.live) (λ h. h.loose.side) 36 (λ s. record { it = s }) ⟦<TripleSeat24 as Posts<Record24>>⟧.is_made
-        limit places.old places.new first.now result }
+    ensures { IsBoardMake (λ h. h.live) (λ h. h.loose.side) 36 (λ s. record { it = s })
+        ⟦<TripleSeat24 as Posts<Record24>>⟧.is_made limit places.old places.new first.now result }
 {
     make_places::<TriplePlace24, triple_place_24::Handle, Record24, TripleSeat24>(
         alloc, first, limit, places,
@@ -30,8 +30,10 @@ pub extern "C" fn nidzaru_triple_board_24_write(
     item: &Record24,
     stamp: &mut Mark,
 ) -> u32
-    ensures { IsBoardWrite 36 (λ s. record { it = s }) ⟦<TripleSeat24 as Posts<Record24>>⟧.has_posted ⟦<TripleSeat24 as Posts<Record24>>⟧.is_refused
-        (holding place.old.live place.old.loose.side) (holding place.new.live place.new.loose.side) item.now stamp.old stamp.new result }
+    ensures { IsBoardWrite 36 (λ s. record { it = s }) ⟦<TripleSeat24 as Posts<Record24>>⟧.has_posted
+        ⟦<TripleSeat24 as Posts<Record24>>⟧.is_refused
+        (holding place.old.live place.old.loose.side) (holding place.new.live place.new.loose.side)
+        item.now stamp.old stamp.new result }
 {
     write_place::<TriplePlace24, triple_place_24::Loose, Record24, TripleSeat24>(
         36,
@@ -49,7 +51,8 @@ pub extern "C" fn nidzaru_triple_board_24_read(
     stamp: &mut Mark,
 ) -> u32
     ensures { IsBoardRead 36 (λ s. record { it = s }) ⟦<TripleSeat24 as Posts<Record24>>⟧.has_seen
-        (holding place.old.live place.old.loose.side) (holding place.new.live place.new.loose.side) item.old item.new stamp.old stamp.new result }
+        (holding place.old.live place.old.loose.side) (holding place.new.live place.new.loose.side)
+        item.old item.new stamp.old stamp.new result }
 {
     read_place::<TriplePlace24, triple_place_24::Loose, Record24, TripleSeat24>(
         36,
@@ -68,7 +71,8 @@ pub extern "C" fn nidzaru_triple_board_24_read_since(
     stamp: &mut Mark,
 ) -> u32
     ensures { IsBoardReadSince 36 (λ s. record { it = s }) ⟦<TripleSeat24 as Posts<Record24>>⟧.has_seen
-        (holding place.old.live place.old.loose.side) (holding place.new.live place.new.loose.side) least.now item.old item.new stamp.old stamp.new result }
+        (holding place.old.live place.old.loose.side) (holding place.new.live place.new.loose.side)
+        least.now item.old item.new stamp.old stamp.new result }
 {
     read_place_since::<TriplePlace24, triple_place_24::Loose, Record24, TripleSeat24>(
         36,
@@ -85,7 +89,8 @@ pub extern "C" fn nidzaru_triple_board_24_end(
     alloc: Global,
     place: &mut triple_place_24::Handle,
 ) -> u32
-    ensures { IsEnd 36 (holding place.old.live place.old.loose.side) (holding place.new.live place.new.loose.side) result }
+    ensures { IsEnd 36 (holding place.old.live place.old.loose.side)
+        (holding place.new.live place.new.loose.side) result }
 {
     end::<TriplePlace24, triple_place_24::Handle>(alloc, place)
 }

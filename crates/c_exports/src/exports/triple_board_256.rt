@@ -16,8 +16,8 @@ pub extern "C" fn nidzaru_triple_board_256_make(
     limit: u64,
     places: &mut [triple_place_256::Handle],
 ) -> u32
-    ensures { IsBoardMake (λ h. h.live) (λ h. h.loose.side) 37 (λ s. record { it = s }) ⟦<TripleSeat256 as Posts<Record256>>⟧.is_made
-        limit places.old places.new first.now result }
+    ensures { IsBoardMake (λ h. h.live) (λ h. h.loose.side) 37 (λ s. record { it = s })
+        ⟦<TripleSeat256 as Posts<Record256>>⟧.is_made limit places.old places.new first.now result }
 {
     make_places::<TriplePlace256, triple_place_256::Handle, Record256, TripleSeat256>(
         alloc, first, limit, places,
@@ -30,8 +30,10 @@ pub extern "C" fn nidzaru_triple_board_256_write(
     item: &Record256,
     stamp: &mut Mark,
 ) -> u32
-    ensures { IsBoardWrite 37 (λ s. record { it = s }) ⟦<TripleSeat256 as Posts<Record256>>⟧.has_posted ⟦<TripleSeat256 as Posts<Record256>>⟧.is_refused
-        (holding place.old.live place.old.loose.side) (holding place.new.live place.new.loose.side) item.now stamp.old stamp.new result }
+    ensures { IsBoardWrite 37 (λ s. record { it = s }) ⟦<TripleSeat256 as Posts<Record256>>⟧.has_posted
+        ⟦<TripleSeat256 as Posts<Record256>>⟧.is_refused
+        (holding place.old.live place.old.loose.side) (holding place.new.live place.new.loose.side)
+        item.now stamp.old stamp.new result }
 {
     write_place::<TriplePlace256, triple_place_256::Loose, Record256, TripleSeat256>(
         37,
@@ -49,7 +51,8 @@ pub extern "C" fn nidzaru_triple_board_256_read(
     stamp: &mut Mark,
 ) -> u32
     ensures { IsBoardRead 37 (λ s. record { it = s }) ⟦<TripleSeat256 as Posts<Record256>>⟧.has_seen
-        (holding place.old.live place.old.loose.side) (holding place.new.live place.new.loose.side) item.old item.new stamp.old stamp.new result }
+        (holding place.old.live place.old.loose.side) (holding place.new.live place.new.loose.side)
+        item.old item.new stamp.old stamp.new result }
 {
     read_place::<TriplePlace256, triple_place_256::Loose, Record256, TripleSeat256>(
         37,
@@ -68,7 +71,8 @@ pub extern "C" fn nidzaru_triple_board_256_read_since(
     stamp: &mut Mark,
 ) -> u32
     ensures { IsBoardReadSince 37 (λ s. record { it = s }) ⟦<TripleSeat256 as Posts<Record256>>⟧.has_seen
-        (holding place.old.live place.old.loose.side) (holding place.new.live place.new.loose.side) least.now item.old item.new stamp.old stamp.new result }
+        (holding place.old.live place.old.loose.side) (holding place.new.live place.new.loose.side)
+        least.now item.old item.new stamp.old stamp.new result }
 {
     read_place_since::<TriplePlace256, triple_place_256::Loose, Record256, TripleSeat256>(
         37,
@@ -85,7 +89,8 @@ pub extern "C" fn nidzaru_triple_board_256_end(
     alloc: Global,
     place: &mut triple_place_256::Handle,
 ) -> u32
-    ensures { IsEnd 37 (holding place.old.live place.old.loose.side) (holding place.new.live place.new.loose.side) result }
+    ensures { IsEnd 37 (holding place.old.live place.old.loose.side)
+        (holding place.new.live place.new.loose.side) result }
 {
     end::<TriplePlace256, triple_place_256::Handle>(alloc, place)
 }

@@ -16,8 +16,8 @@ pub extern "C" fn nidzaru_triple_board_4096_make(
     limit: u64,
     places: &mut [triple_place_4096::Handle],
 ) -> u32
-    ensures { IsBoardMake (λ h. h.live) (λ h. h.loose.side) 38 (λ s. record { it = s }) ⟦<TripleSeat4096 as Posts<Record4096>>⟧.is_made
-        limit places.old places.new first.now result }
+    ensures { IsBoardMake (λ h. h.live) (λ h. h.loose.side) 38 (λ s. record { it = s })
+        ⟦<TripleSeat4096 as Posts<Record4096>>⟧.is_made limit places.old places.new first.now result }
 {
     make_places::<TriplePlace4096, triple_place_4096::Handle, Record4096, TripleSeat4096>(
         alloc, first, limit, places,
@@ -30,8 +30,10 @@ pub extern "C" fn nidzaru_triple_board_4096_write(
     item: &Record4096,
     stamp: &mut Mark,
 ) -> u32
-    ensures { IsBoardWrite 38 (λ s. record { it = s }) ⟦<TripleSeat4096 as Posts<Record4096>>⟧.has_posted ⟦<TripleSeat4096 as Posts<Record4096>>⟧.is_refused
-        (holding place.old.live place.old.loose.side) (holding place.new.live place.new.loose.side) item.now stamp.old stamp.new result }
+    ensures { IsBoardWrite 38 (λ s. record { it = s }) ⟦<TripleSeat4096 as Posts<Record4096>>⟧.has_posted
+        ⟦<TripleSeat4096 as Posts<Record4096>>⟧.is_refused
+        (holding place.old.live place.old.loose.side) (holding place.new.live place.new.loose.side)
+        item.now stamp.old stamp.new result }
 {
     write_place::<TriplePlace4096, triple_place_4096::Loose, Record4096, TripleSeat4096>(
         38,
@@ -49,7 +51,8 @@ pub extern "C" fn nidzaru_triple_board_4096_read(
     stamp: &mut Mark,
 ) -> u32
     ensures { IsBoardRead 38 (λ s. record { it = s }) ⟦<TripleSeat4096 as Posts<Record4096>>⟧.has_seen
-        (holding place.old.live place.old.loose.side) (holding place.new.live place.new.loose.side) item.old item.new stamp.old stamp.new result }
+        (holding place.old.live place.old.loose.side) (holding place.new.live place.new.loose.side)
+        item.old item.new stamp.old stamp.new result }
 {
     read_place::<TriplePlace4096, triple_place_4096::Loose, Record4096, TripleSeat4096>(
         38,
@@ -68,7 +71,8 @@ pub extern "C" fn nidzaru_triple_board_4096_read_since(
     stamp: &mut Mark,
 ) -> u32
     ensures { IsBoardReadSince 38 (λ s. record { it = s }) ⟦<TripleSeat4096 as Posts<Record4096>>⟧.has_seen
-        (holding place.old.live place.old.loose.side) (holding place.new.live place.new.loose.side) least.now item.old item.new stamp.old stamp.new result }
+        (holding place.old.live place.old.loose.side) (holding place.new.live place.new.loose.side)
+        least.now item.old item.new stamp.old stamp.new result }
 {
     read_place_since::<TriplePlace4096, triple_place_4096::Loose, Record4096, TripleSeat4096>(
         38,
@@ -85,7 +89,8 @@ pub extern "C" fn nidzaru_triple_board_4096_end(
     alloc: Global,
     place: &mut triple_place_4096::Handle,
 ) -> u32
-    ensures { IsEnd 38 (holding place.old.live place.old.loose.side) (holding place.new.live place.new.loose.side) result }
+    ensures { IsEnd 38 (holding place.old.live place.old.loose.side)
+        (holding place.new.live place.new.loose.side) result }
 {
     end::<TriplePlace4096, triple_place_4096::Handle>(alloc, place)
 }

@@ -35,8 +35,9 @@ impl<W: Copy> TripleEnds<W> {
     #[inline]
     fn hold<'a>(&'a mut self) -> &'a Numbered<W>
         requires own { is_get_of (arc_value self.old.cell) self.old.get }
-        ensures* same { sem 𝓛 (follows_so (ends.the_row W.row W.Clone) (ends.the_row W.row W.Clone) self.entry.ghost_name none
-            (λ _ _. ⊤) (λ g. StaysBy self.old g)) }
+        ensures* same { sem 𝓛
+            (follows_so (ends.the_row W.row W.Clone) (ends.the_row W.row W.Clone) self.entry.ghost_name none (λ _ _. ⊤)
+            (λ g. StaysBy self.old g)) }
         ensures held { result.now ≡ at_hand_of self.old.get }
     {
         let cell = &*self.cell;
@@ -45,11 +46,13 @@ impl<W: Copy> TripleEnds<W> {
 }
 
 impl<W: Copy> TripleReader<W> {
-    /// Lends the last answer, or the opening, where it lies, until the side is used again. No write goes into its slot meanwhile.
+    /// Lends the last answer, or the opening, where it lies, until the side is used again. No write
+    /// goes into its slot meanwhile.
     #[inline]
     pub fn hold<'a>(&'a mut self) -> &'a Numbered<W>
-        ensures* same { sem 𝓛 (follows_so (reader.the_row W.row W.Clone) (reader.the_row W.row W.Clone) self.entry.ghost_name none
-            (λ _ _. ⊤) (λ g. Stays self.old g)) }
+        ensures* same { sem 𝓛
+            (follows_so (reader.the_row W.row W.Clone)
+            (reader.the_row W.row W.Clone) self.entry.ghost_name none (λ _ _. ⊤) (λ g. Stays self.old g)) }
         ensures held { result.now ≡ at_hand self.old }
     {
         self.room.inside().hold()

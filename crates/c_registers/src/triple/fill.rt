@@ -19,7 +19,8 @@ impl<W: Copy> TripleFiller<W> {
     #[inline]
     pub(super) fn write(&mut self, numbering: &Numbering<'_, W>)
         requires own { is_put_of (arc_value self.old.cell) self.old.put }
-        requires above { (last_or (opening_of (arc_value self.old.cell)) (written_by self.old.put)).number < numbering.now.number }
+        requires above { (last_or (opening_of (arc_value self.old.cell)) (written_by self.old.put)).number
+            < numbering.now.number }
         ensures own { is_put_of (arc_value self.new.cell) self.new.put }
         ensures written { HasWrittenBy self.old self.new (numbered numbering.now.number numbering.now.words.now) }
     {
@@ -52,8 +53,8 @@ impl<W: Copy> TripleFiller<W> {
 }
 
 impl<W: Copy> TripleWriter<W> {
-    /// Lends the words in the slot, to be filled where the record will lie, until the side is used again. They are an older record's, or
-    /// the opening's. `publish` then shows them, and any other write fills the slot anew.
+    /// Lends the words in the slot, to be filled where the record will lie, until the side is used again. They are an
+    /// older record's, or the opening's. `publish` then shows them, and any other write fills the slot anew.
     #[inline]
     pub fn loan<'a>(&'a mut self) -> &'a mut W
         ensures* lent { sem 𝓛 (Lends (writer.the_row W.row W.Clone) W.row self.entry result (writer_with self.old)) }

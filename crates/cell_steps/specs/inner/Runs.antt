@@ -8,7 +8,8 @@ use Rattle.four_slot_core.specs.declared.state.Stage.{Stage}
 use Rattle.four_slot_core.specs.declared.state.Stage.TheVariants.{W5}
 use Rattle.four_slot_core.specs.declared.state.ReaderStage.{ReaderStage}
 use Rattle.four_slot_core.specs.declared.state.ReaderStage.TheVariants.{R4}
-use Rattle.four_slot_core.specs.Events.{after_read, after_write, answer, bit_number, next_reader, next_write, opening_state, slot_number}
+use Rattle.four_slot_core.specs.Events.{after_read, after_write, answer, bit_number, next_reader, next_write}
+use Rattle.four_slot_core.specs.Events.{opening_state, slot_number}
 use Rattle.four_slot_core.specs.Traces.{Trace}
 use Rattle.cell_steps.specs.Steps.{last_or, noise, read_number, turn_of, write_number}
 use Rattle.cell_steps.specs.declared.in_play.InPlay.{InPlay}

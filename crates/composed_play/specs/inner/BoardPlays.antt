@@ -64,8 +64,10 @@ module _ {R : Type 0} where
   -- a process begins its operation
   abbrev pub opened : BoardPlaying R → ℕ → Wish R → BoardPlaying R
   opened play who wish = record play {
-    seats = slice_set play.seats who (record { place = length play.ops; operation = (board_seat play who).operation; made = 0 });
-    ops = play.ops ++ begun_op who play.now wish ∷ [];
+    seats = slice_set play.seats who
+        (record { place = length play.ops; operation = (board_seat play who).operation; made = 0 });
+    ops =
+        play.ops ++ begun_op who play.now wish ∷ [];
     stamps = play.stamps ++ None ∷ [];
     slots = play.slots ++ replicate (2 * (length play.seats - 1)) None ∷ [];
   }

@@ -72,7 +72,13 @@ plan_of Reader writes reads = replicate reads Read
 -- read its answer
 abbrev pub op_by : {R : Type 0} → Turn → ℕ → ℕ → List R → List ℕ → List ℕ → List (Numbered R) → Op R
 op_by Writer number starts writes writer_ends reader_ends answers =
-    record { who = 0; kind = WriteKind; starts = starts; ends = slice_get writer_ends number; item = slice_get writes number }
+    record {
+      who = 0;
+      kind = WriteKind;
+      starts = starts;
+      ends = slice_get writer_ends number;
+      item = slice_get writes number;
+    }
 op_by Reader number starts writes writer_ends reader_ends answers =
     record {
       who = 1;

@@ -30,21 +30,31 @@ abbrev pub log_of : {R : Type 0} → Trace R → Log R
 log_of t = record { cell = t.cell; write_slots = t.write_slots; read_slots = t.read_slots; answers = t.answers }
 
 abbrev pub shown : {R : Type 0} → InPlay R → Log (Numbered R)
-shown r = record { cell = r.cell; write_slots = r.write_slots.items; read_slots = r.read_slots.items; answers = r.answers.items }
+shown r =
+    record {
+      cell = r.cell;
+      write_slots = r.write_slots.items;
+      read_slots = r.read_slots.items;
+      answers = r.answers.items;
+    }
 
 abbrev pub after_writer : {R : Type 0} → R → Log R → Log R
 after_writer item log =
     record log {
       cell = after_write log.cell.writer item log.cell;
-      write_slots = shown_by_write log.cell.writer log.write_slots (slot_number (after_write log.cell.writer item log.cell).write);
+      write_slots =
+          shown_by_write log.cell.writer log.write_slots
+          (slot_number (after_write log.cell.writer item log.cell).write);
     }
 
 abbrev pub after_reader : {R : Type 0} → Log R → Log R
 after_reader log =
     record log {
       cell = after_read log.cell.reader log.cell;
-      read_slots = shown_by_read log.cell.reader log.read_slots (slot_number (after_read log.cell.reader log.cell).read);
-      answers = answered_by_read log.cell.reader log.answers (answer log.cell);
+      read_slots =
+          shown_by_read log.cell.reader log.read_slots (slot_number (after_read log.cell.reader log.cell).read);
+      answers =
+          answered_by_read log.cell.reader log.answers (answer log.cell);
     }
 
 abbrev pub step_of : {R : Type 0} → (ℕ → R) → Log R → Turn → Log R
@@ -64,7 +74,8 @@ numbered_trace opening noise writes steps =
 
 abbrev pub numbered_run : {R : Type 0} → R → R → List R → List Turn → Log (Numbered R)
 numbered_run opening noise writes steps =
-    fold (step_of (numbered opening writes)) (log_of (trace_start (opening_record opening) (opening_record noise))) steps
+    fold (step_of (numbered opening writes))
+    (log_of (trace_start (opening_record opening) (opening_record noise))) steps
 
 pub record IsAssembled {R : Type 0} (log : Log (Numbered R)) (steps : List Turn) (writes : List R) (terms : List Term)
     (ops : List (Op R))

@@ -60,7 +60,8 @@ pub(super) fn weave<R: Copy>(
     requires same { length reads.now ≡ length answers.now }
     requires rising { NumbersRise answers.now }
     requires below { NumbersBelow (length writes.now) answers.now }
-    ensures { IfOk result (λ order. IsWeave writes.now reads.now answers.now (length writes.now) (length reads.now) order.items) }
+    ensures { IfOk result
+        (λ order. IsWeave writes.now reads.now answers.now (length writes.now) (length reads.now) order.items) }
 {
     let mut order = Vec::new(alloc);
     let mut next = 0;

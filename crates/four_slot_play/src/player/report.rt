@@ -23,7 +23,8 @@ struct Played<R> {
 impl<R: Copy> Played<R> {
     fn operation(&self, part: &Started, writes: &[R]) -> Op<R>
         ensures { result
-            ≡ op_of writes.now self.now.all.writer_ends.items self.now.all.reader_ends.items self.now.run.answers.items part.now }
+            ≡ op_of writes.now self.now.all.writer_ends.items self.now.all.reader_ends.items
+            self.now.run.answers.items part.now }
     {
         match part.turn {
             Turn::Writer => Op {
@@ -59,7 +60,9 @@ impl<R: Copy> Played<R> {
         writes: &[R],
     ) -> Result<Vec<Op<R>>, AllocError>
         ensures { IfOk result (λ ops. ops.items
-            ≡ map (op_of writes.now self.now.all.writer_ends.items self.now.all.reader_ends.items self.now.run.answers.items) parts.now) }
+            ≡ map
+            (op_of writes.now self.now.all.writer_ends.items self.now.all.reader_ends.items self.now.run.answers.items)
+            parts.now) }
     {
         let mut ops = Vec::with_capacity(alloc, parts.len())?;
         for part in parts {
@@ -70,7 +73,8 @@ impl<R: Copy> Played<R> {
 
     fn slots(&self, alloc: Global, parts: &[Started]) -> Result<Vec<Option<u8>>, AllocError>
         ensures { IfOk result
-            (λ slots. slots.items ≡ map (slot_of self.now.run.write_slots.items self.now.run.read_slots.items) parts.now) }
+            (λ slots. slots.items
+            ≡ map (slot_of self.now.run.write_slots.items self.now.run.read_slots.items) parts.now) }
     {
         let mut slots = Vec::with_capacity(alloc, parts.len())?;
         for part in parts {
@@ -86,7 +90,8 @@ impl<R: Copy> Played<R> {
         requires reads { HasFirst Reader (length self.now.run.answers.items) parts.now }
         requires rising { NumbersRise self.now.run.answers.items }
         requires below { NumbersBelow (length self.now.all.stores.items) self.now.run.answers.items }
-        ensures { IfOk result (λ order. IsOrdered parts.now (length self.now.all.stores.items) self.now.run.answers.items order.items) }
+        ensures { IfOk result
+            (λ order. IsOrdered parts.now (length self.now.all.stores.items) self.now.run.answers.items order.items) }
     {
         let writes = places(alloc, parts, Turn::Writer, self.all.stores.len())?;
         let reads = places(alloc, parts, Turn::Reader, self.run.answers.len())?;
@@ -104,7 +109,8 @@ pub(super) fn assemble<R: Copy>(
 ) -> Result<CellReport<R>, AllocError>
     ensures opening { IfOk result (λ r. r.history.opening ≡ opening) }
     ensures assembled { IfOk result (λ r.
-        IsAssembled (numbered_run opening noise writes.now steps.now) steps.now writes.now r.history.terms r.history.ops r.slots r.order) }
+        IsAssembled (numbered_run opening noise writes.now steps.now)
+        steps.now writes.now r.history.terms r.history.ops r.slots r.order) }
 {
     let played = Played {
         all: read_steps(alloc, steps)?,

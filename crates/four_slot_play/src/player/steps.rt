@@ -95,7 +95,8 @@ impl Operations {
             (self.new.writer_ends.items ≡ self.old.writer_ends.items ++ noted (makes turn step Writer 4) position) }
         ensures reader_ends { OnOk result
             (self.new.reader_ends.items ≡ self.old.reader_ends.items ++ noted (makes turn step Reader 4) position) }
-        ensures stores { OnOk result (self.new.stores.items ≡ self.old.stores.items ++ noted (makes turn step Writer 3) position) }
+        ensures stores { OnOk result
+            (self.new.stores.items ≡ self.old.stores.items ++ noted (makes turn step Writer 3) position) }
     {
         match (turn, step % ACCESSES) {
             (_, 0) => self.parts.push(Started {
@@ -115,7 +116,8 @@ impl Operations {
 /// Reads the operations off the steps.
 pub(super) fn read_steps(alloc: Global, steps: &[Turn]) -> Result<Operations, AllocError>
     ensures { IfOk result
-        (λ all. IsOperationsOf (map actor steps.now) all.parts.items all.writer_ends.items all.reader_ends.items all.stores.items) }
+        (λ all. IsOperationsOf (map actor steps.now)
+        all.parts.items all.writer_ends.items all.reader_ends.items all.stores.items) }
 {
     let mut all = Operations {
         parts: Vec::new(alloc),

@@ -1,5 +1,5 @@
--- A list of marks, for the places of one block: the check of listing. Only its private functions cite this, which is this
--- project's own; the meaning of listing stands in history_core's Orders.
+-- A list of marks, for the places of one block: the check of listing. Only its private functions cite this, which is
+-- this project's own; the meaning of listing stands in history_core's Orders.
 use Rattle.std.specs.Prelude.{◌≡◌, ℕ, ◌+◌, ◌<◌, Bool, true, false, List, length, get_or, nat_eq, if◌then◌else◌}
 
 abbrev pub HasMark : List Bool → ℕ → Type 0

@@ -54,8 +54,8 @@ fn block_stands<R>(ops: &[Op<R>], order: &[usize], base: usize, seen: &mut [bool
     true
 }
 
-/// Marks a place of the block that begins at `base`, and says whether it was not marked before. A place of another block
-/// changes nothing, and the answer is that it wasn't.
+/// Marks a place of the block that begins at `base`, and says whether it was not marked before. A place of another
+/// block changes nothing, and the answer is that it wasn't.
 fn mark(seen: &mut [bool], base: usize, place: usize) -> bool
     ensures len { length seen.new ≡ length seen.old }
     ensures first { IsTrue result → AddsMark seen.old seen.new base place }

@@ -1,5 +1,5 @@
-//! The third rule: each operation that is listed has an item, and a read or refused write has that of the last write before it, or the
-//! opening.
+//! The third rule: each operation that is listed has an item, and a read or refused write has that of the last
+//! write before it, or the opening.
 
 ghost use Rattle.std.specs.Prelude.{◌≡◌, ◌↔◌, Some, IsTrue, IfNone, IfSome};
 ghost use Rattle.history_core.specs.Orders.{left_by, ListsPlaces, ReadsLatest, ReadsRight};

@@ -7,8 +7,8 @@ ghost use Rattle.history_check.specs.Ranges.{is_between};
 use crate::ranges::{count, is_within};
 use history_core::{Op, Term};
 
-/// Whether each refused write is lawful. It goes over the terms from the last to the first: a term has the places from its
-/// first on that are below `next`, the least first of the terms after it.
+/// Whether each refused write is lawful. It goes over the terms from the last to the first: a term has the places from
+/// its first on that are below `next`, the least first of the terms after it.
 pub(super) fn refuses_lawfully<R>(terms: &[Term], ops: &[Op<R>], order: &[usize]) -> bool
     requires { ListsPlaces ops.now order.now }
     ensures { IsTrue result ↔ RefusesLawfully terms.now ops.now order.now }

@@ -1,5 +1,5 @@
--- The earliest points, one after the other: the latest beginning so far. Only private functions cite this, which is this
--- project's own; what points are stands in Points.
+-- The earliest points, one after the other: the latest beginning so far. Only private functions cite this, which is
+-- this project's own; what points are stands in Points.
 use Rattle.std.specs.Prelude.{◌≡◌, ℕ, ◌≤◌, max, List, [], ◌∷◌, slice_get, Option, None, Some, IfSome}
 use Rattle.history_core.specs.declared.history.Op.{Op}
 

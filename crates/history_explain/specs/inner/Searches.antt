@@ -1,6 +1,7 @@
--- What the searches for a break keep as they go. Only private functions cite this, which is this project's own; what a break is
--- stands in Breaks.
-use Rattle.std.specs.Prelude.{◌≡◌, ℕ, ◌+◌, ◌<◌, List, length, slice_get, slice_index, take, true, nat_eq, nat_lt, if◌then◌else◌, Option}
+-- What the searches for a break keep as they go. Only private functions cite this, which is this project's own; what
+-- a break is stands in Breaks.
+use Rattle.std.specs.Prelude.{◌≡◌, ℕ, ◌+◌, ◌<◌, List, length, slice_get, slice_index, take, true, nat_eq}
+use Rattle.std.specs.Prelude.{nat_lt, if◌then◌else◌, Option}
 use Rattle.std.specs.Prelude.{None, Some, IsSome}
 use Rattle.history_core.specs.declared.history.Kind.{Kind}
 use Rattle.history_core.specs.declared.history.Kind.TheVariants.{Write, Read, Refused}
@@ -14,7 +15,8 @@ use Rattle.history_check.specs.Ranges.{is_between}
 
 -- the count of this place rises by one, and no other changes; a place of another block changes none
 abbrev pub AddsOne : List ℕ → List ℕ → ℕ → ℕ → Type 0
-AddsOne old new base place = (k : ℕ) → k < length old → slice_index new k ≡ slice_index old k + (if nat_eq place (base + k) then 1 else 0)
+AddsOne old new base place = (k : ℕ) → k < length old →
+    slice_index new k ≡ slice_index old k + (if nat_eq place (base + k) then 1 else 0)
 
 -- the last write once this entry, of an operation of this kind, has been met
 abbrev pub write_after : Kind → ℕ → Option ℕ → Option ℕ
@@ -42,8 +44,8 @@ abbrev pub entry_of : Option Early → Option ℕ
 entry_of None = None
 entry_of (Some e) = Some e.entry
 
--- the write of this entry, at a place from `first` up to `next`, was refused with so many writes at such places before it, fewer
--- than the limit
+-- the write of this entry, at a place from `first` up to `next`, was refused with so many writes at such places
+-- before it, fewer than the limit
 abbrev pub IsEarly : {R : Type 0} → ℕ → ℕ → ℕ → List (Op R) → List ℕ → Early → Type 0
 IsEarly {R} first next limit ops order early =
     (p : ℕ) × (o : Op R) × (slice_get order early.entry ≡ Some p) × (slice_get ops p ≡ Some o) × (o.kind ≡ Refused)

@@ -14,8 +14,8 @@ pub(super) struct Begun {
     pub(super) starts: u64,
 }
 
-/// The first entry that precedes one before it, and of those before it the one that began last. It goes forwards, with the
-/// latest beginning that it has met.
+/// The first entry that precedes one before it, and of those before it the one that began last. It goes forwards, with
+/// the latest beginning that it has met.
 pub(super) fn overtaken<R>(ops: &[Op<R>], order: &[usize]) -> Option<(usize, usize)>
     requires { ListsPlaces ops.now order.now }
     ensures none { IfNone result (KeepsPrecedence ops.now order.now) }

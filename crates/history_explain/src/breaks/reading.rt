@@ -40,10 +40,12 @@ pub(super) fn reading_break<R: Copy + Eq>(
 
 /// What is held after an operation, or how it breaks reading.
 fn after<R: Copy + Eq>(held: Held<R>, entry: usize, op: &Op<R>) -> Result<Held<R>, Break>
-    ensures right { IfOk result (λ _. ReadsRight (λ x y. IsTrue (R.eq x y)) op.now.kind op.now.item (Some held.latest)) }
+    ensures right { IfOk result
+        (λ _. ReadsRight (λ x y. IsTrue (R.eq x y)) op.now.kind op.now.item (Some held.latest)) }
     ensures latest { IfOk result (λ h. left_by (Some held.latest) op.now.kind op.now.item ≡ Some h.latest) }
     ensures write { IfOk result (λ h. h.write ≡ write_after op.now.kind entry held.write) }
-    ensures wrong { IfErr result (IsWrongAt (λ x y. IsTrue (R.eq x y)) held.latest held.write entry op.now.kind op.now.item) }
+    ensures wrong { IfErr result
+        (IsWrongAt (λ x y. IsTrue (R.eq x y)) held.latest held.write entry op.now.kind op.now.item) }
 {
     let Some(item) = op.item else {
         return Err(Break::NoItem { entry });

@@ -17,8 +17,8 @@ pub(super) struct Early {
     pub(super) writes: u64,
 }
 
-/// The first entry that was refused too early. It goes over the terms from the last to the first, as the check of the limit does,
-/// and for each over the entries before the one that it has found.
+/// The first entry that was refused too early. It goes over the terms from the last to the first, as the check of the
+/// limit does, and for each over the entries before the one that it has found.
 pub(super) fn refused_early<R>(terms: &[Term], ops: &[Op<R>], order: &[usize]) -> Option<Early>
     requires { ListsPlaces ops.now order.now }
     ensures none { IfNone result (RefusesLawfully terms.now ops.now order.now) }
@@ -34,8 +34,8 @@ pub(super) fn refused_early<R>(terms: &[Term], ops: &[Op<R>], order: &[usize]) -
     found
 }
 
-/// The first write at a place from `first` up to `next` that is refused too early, of those before the one that was found; or
-/// else that one.
+/// The first write at a place from `first` up to `next` that is refused too early, of those before the one that
+/// was found; or else that one.
 fn early_before<R>(
     ops: &[Op<R>],
     order: &[usize],
@@ -46,8 +46,10 @@ fn early_before<R>(
 ) -> Option<Early>
     requires places { ListsPlaces ops.now order.now }
     requires within { IfSome found (λ e. e.entry ≤ length order.now) }
-    ensures lawful { KeepsLimit (is_between first next) limit ops.now (take (end_of (entry_of result) (length order.now)) order.now) }
-    ensures early { (result ≡ found) ⊎ ((end_of (entry_of result) (length order.now) < end_of (entry_of found) (length order.now))
+    ensures lawful { KeepsLimit (is_between first next) limit ops.now
+        (take (end_of (entry_of result) (length order.now)) order.now) }
+    ensures early { (result ≡ found)
+        ⊎ ((end_of (entry_of result) (length order.now) < end_of (entry_of found) (length order.now))
         × IfSome result (λ e. IsEarly first next limit ops.now order.now e)) }
 {
     let end = end_of(found, order.len());

@@ -1,5 +1,5 @@
--- How a search came to its answer. Only private functions cite this, which is this project's own; what the answer means stands in
--- Searches.
+-- How a search came to its answer. Only private functions cite this, which is this project's own; what the
+-- answer means stands in Searches.
 use Rattle.std.specs.Prelude.{◌≡◌, ℕ, ◌<◌, ◌≤◌, List, [], ◌∷◌, length, map, slice_get, Option, None, Some, ◌⊎◌}
 use Rattle.std.proofs.Common.{suc}
 use Rattle.history_core.specs.declared.history.Op.{Op}
@@ -46,16 +46,19 @@ EndsBefore spans moment before =
     (w : ℕ) × (span : Span) × (slice_get spans (suc w) ≡ Some span) × (ends_before span.ends moment ≡ Some before)
 
 abbrev pub NoneEndsBefore : List Span → ℕ → Type 0
-NoneEndsBefore spans moment = (w : ℕ) (span : Span) → slice_get spans (suc w) ≡ Some span → ends_before span.ends moment ≡ None
+NoneEndsBefore spans moment = (w : ℕ) (span : Span) → slice_get spans (suc w) ≡ Some span →
+    ends_before span.ends moment ≡ None
 
 -- this operation of another group ends before this one of the opening begins
 abbrev pub IsStaleIn : List Span → ℕ → ℕ → Type 0
 IsStaleIn spans before read =
-    (opened : Span) × (m : Moment) × (slice_get spans 0 ≡ Some opened) × (opened.begins ≡ Some m) × EndsBefore spans m.at before
+    (opened : Span) × (m : Moment) × (slice_get spans 0 ≡ Some opened) × (opened.begins ≡ Some m)
+    × EndsBefore spans m.at before
     × (m.place ≡ read)
 
 abbrev pub NoneStaleIn : List Span → Type 0
-NoneStaleIn spans = (opened : Span) (m : Moment) → slice_get spans 0 ≡ Some opened → opened.begins ≡ Some m → NoneEndsBefore spans m.at
+NoneStaleIn spans = (opened : Span) (m : Moment) → slice_get spans 0 ≡ Some opened → opened.begins ≡ Some m →
+    NoneEndsBefore spans m.at
 
 -- an order whose first refused write has enough writes before it, if it has one
 abbrev pub HasEnough : {R : Type 0} → List (Op R) → List ℕ → ℕ → Type 0
@@ -68,12 +71,13 @@ HasTooFew ops order limit place = (c : ℕ) × (writes : ℕ) × IsFirstRefusal 
 
 -- this operation ends before the write of its group begins
 abbrev pub IsEarlyIn : {R : Type 0} → List (Op R) → List Span → ℕ → ℕ → Type 0
-IsEarlyIn {R} ops spans read w = (a : Op R) × (span : Span) × (slice_get ops w ≡ Some a) × (slice_get spans (suc w) ≡ Some span)
+IsEarlyIn {R} ops spans read w = (a : Op R) × (span : Span) × (slice_get ops w ≡ Some a)
+    × (slice_get spans (suc w) ≡ Some span)
     × (ends_before span.ends a.starts ≡ Some read)
 
 abbrev pub NoneEarlyIn : {R : Type 0} → List (Op R) → List Span → ℕ → Type 0
-NoneEarlyIn {R} ops spans n = (w : ℕ) (a : Op R) (span : Span) → w < n → slice_get ops w ≡ Some a → slice_get spans (suc w) ≡ Some span →
-    ends_before span.ends a.starts ≡ None
+NoneEarlyIn {R} ops spans n = (w : ℕ) (a : Op R) (span : Span) → w < n → slice_get ops w ≡ Some a →
+    slice_get spans (suc w) ≡ Some span → ends_before span.ends a.starts ≡ None
 
 module _ {R : Type 0} (ops : List (Op R)) (groups : List (Option ℕ)) where
   -- the groups and spans of a history in which each read has its write before it
@@ -142,10 +146,12 @@ module _ {R : Type 0} (ops : List (Op R)) (groups : List (Option ℕ)) where
   IsFound limit (Order order) = (spans : List Span) × IsPrepared spans × IsGroupSearch spans limit (Order order)
   IsFound limit (Unlawful (Unwritten read)) = IsUngrouped ops groups read
   IsFound limit (Unlawful (Early read write)) =
-      (spans : List Span) × HaveGroups ops groups (length ops) × AreSpans ops groups (length ops) spans × IsEarlyIn ops spans read write
+      (spans : List Span) × HaveGroups ops groups (length ops) × AreSpans ops groups (length ops) spans
+      × IsEarlyIn ops spans read write
   IsFound limit (Unlawful (Stale before read)) =
       (spans : List Span) × HaveGroups ops groups (length ops) × AreSpans ops groups (length ops) spans
       × NoneEarlyIn ops spans (length ops) × IsStaleIn spans before read
   IsFound limit (Unlawful (Crossed a b c d)) =
       (spans : List Span) × IsPrepared spans × IsGroupSearch spans limit (Unlawful (Crossed a b c d))
-  IsFound limit (Unlawful (Limit place)) = (spans : List Span) × IsPrepared spans × IsGroupSearch spans limit (Unlawful (Limit place))
+  IsFound limit (Unlawful (Limit place)) = (spans : List Span) × IsPrepared spans
+      × IsGroupSearch spans limit (Unlawful (Limit place))

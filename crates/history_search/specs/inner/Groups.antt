@@ -1,6 +1,7 @@
--- Groups of operations: all that is of one record. Group 0 is that of the opening, and group w + 1 that of the write at place w. Only
--- private functions cite this, which is this project's own.
-use Rattle.std.specs.Prelude.{◌≡◌, ℕ, ◌+◌, ◌-◌, ◌<◌, ◌≤◌, Bool, true, false, List, length, slice_get, Option, None, Some, IsSome}
+-- Groups of operations: all that is of one record. Group 0 is that of the opening, and group w + 1 that of the write at
+-- place w. Only private functions cite this, which is this project's own.
+use Rattle.std.specs.Prelude.{◌≡◌, ℕ, ◌+◌, ◌-◌, ◌<◌, ◌≤◌, Bool, true, false, List, length}
+use Rattle.std.specs.Prelude.{slice_get, Option, None, Some, IsSome}
 use Rattle.std.specs.Prelude.{nat_lt, if◌then◌else◌}
 use Rattle.std.specs.Option.{option_and_then}
 use Rattle.std.specs.BTreeMap.{BTreeMap, get}
@@ -21,7 +22,8 @@ module _ {R : Type 0} where
   -- the record of an operation is that of this group
   abbrev pub HasGroup : (R → R → Type 0) → R → List (Op R) → ℕ → Op R → Type 0
   HasGroup Same opening ops zero o = IsOfOpening Same opening o
-  HasGroup Same opening ops (suc w) o = (a : Op R) × (slice_get ops w ≡ Some a) × (is_write a.kind ≡ true) × OfOneRecord Same o a
+  HasGroup Same opening ops (suc w) o = (a : Op R) × (slice_get ops w ≡ Some a) × (is_write a.kind ≡ true)
+      × OfOneRecord Same o a
 
   -- the record of an operation is neither the opening nor written
   abbrev pub HasNoGroup : (R → R → Type 0) → R → List (Op R) → Op R → Type 0
@@ -35,7 +37,8 @@ module _ {R : Type 0} where
   IsGroupOf Same opening ops o (Some g) = (counts o ≡ true) × HasGroup Same opening ops g o
 
   -- the group of each operation
-  pub record AreGroups (Same : R → R → Type 0) (opening : R) (ops : List (Op R)) (groups : List (Option ℕ)) : Type 0 where
+  pub record AreGroups (Same : R → R → Type 0) (opening : R) (ops : List (Op R))
+      (groups : List (Option ℕ)) : Type 0 where
     pub long : length groups ≡ length ops
     pub each : (p : ℕ) (o : Op R) (found : Option ℕ) → slice_get ops p ≡ Some o → slice_get groups p ≡ Some found →
         IsGroupOf Same opening ops o found
@@ -49,7 +52,8 @@ module _ {R : Type 0} where
     pub least : (p end : ℕ) (o : Op R) → p < n → Member ops groups p o g → o.ends ≡ Some end →
         (m : Moment) × (span.ends ≡ Some m) × (m.at ≤ end)
     pub ender : (m : Moment) → span.ends ≡ Some m → (o : Op R) × Member ops groups m.place o g × (o.ends ≡ Some m.at)
-    pub most : (p : ℕ) (o : Op R) → p < n → Member ops groups p o g → (m : Moment) × (span.begins ≡ Some m) × (o.starts ≤ m.at)
+    pub most : (p : ℕ) (o : Op R) → p < n → Member ops groups p o g →
+        (m : Moment) × (span.begins ≡ Some m) × (o.starts ≤ m.at)
     pub beginner : (m : Moment) → span.begins ≡ Some m → (o : Op R) × Member ops groups m.place o g × (o.starts ≡ m.at)
     pub asks : (p : ℕ) (o : Op R) → p < n → Member ops groups p o g → o.kind ≡ Refused → IsSome span.refused
     pub asker : (p : ℕ) → span.refused ≡ Some p → (o : Op R) × Member ops groups p o g × (o.kind ≡ Refused)
@@ -67,8 +71,8 @@ module _ {R : Type 0} where
   pub record KnowsWrites (cmp : R → R → Ordering) (ops : List (Op R)) (n : ℕ) (writes : BTreeMap R ℕ) : Type 0 where
     pub found : (x : R) (g : ℕ) → get cmp writes x ≡ Some g → (w : ℕ) × (a : Op R) × (y : R) × (g ≡ suc w) × (w < n)
         × (slice_get ops w ≡ Some a) × (is_write a.kind ≡ true) × (a.item ≡ Some y) × (cmp x y ≡ Equal)
-    pub known : (w : ℕ) (a : Op R) (x y : R) → w < n → slice_get ops w ≡ Some a → is_write a.kind ≡ true → a.item ≡ Some y →
-        cmp x y ≡ Equal → get cmp writes x ≡ Some (suc w)
+    pub known : (w : ℕ) (a : Op R) (x y : R) → w < n → slice_get ops w ≡ Some a →
+        is_write a.kind ≡ true → a.item ≡ Some y → cmp x y ≡ Equal → get cmp writes x ≡ Some (suc w)
 
   -- the group of an operation, found among the written records
   abbrev pub group_in : (R → R → Bool) → (R → R → Ordering) → R → BTreeMap R ℕ → Op R → Option ℕ
@@ -80,7 +84,8 @@ module _ {R : Type 0} where
   IsWriteFault eq cmp opening writes record_of place NoMemory = Unit {0}
   IsWriteFault eq cmp opening writes record_of place (WritesOpening p) = (p ≡ place) × (eq record_of opening ≡ true)
   IsWriteFault eq cmp opening writes record_of place (WritesTwice first second) =
-      (second ≡ place) × (eq record_of opening ≡ false) × (g : ℕ) × (get cmp writes record_of ≡ Some g) × (first ≡ g - 1)
+      (second ≡ place) × (eq record_of opening ≡ false) × (g : ℕ)
+      × (get cmp writes record_of ≡ Some g) × (first ≡ g - 1)
   IsWriteFault eq cmp opening writes record_of place other = ⊥
 
   -- this finished operation has no group

@@ -1,5 +1,5 @@
--- The first refused write of an order. Only private functions cite this, which is this project's own; the meaning of a lawful refusal
--- stands with the check.
+-- The first refused write of an order. Only private functions cite this, which is this project's own; the meaning of a
+-- lawful refusal stands with the check.
 use Rattle.std.specs.Prelude.{◌≡◌, ℕ, ◌<◌, true, List, take, slice_get, Some}
 use Rattle.history_core.specs.declared.history.Op.{Op}
 use Rattle.history_core.specs.declared.history.Kind.TheVariants.{Refused}
@@ -8,7 +8,8 @@ use Rattle.history_core.specs.Orders.{writes_in}
 module _ {R : Type 0} (ops : List (Op R)) (order : List ℕ) where
   -- none of the first n entries is a refused write
   abbrev pub NoneRefused : ℕ → Type 0
-  NoneRefused n = (i p : ℕ) (o : Op R) → i < n → slice_get order i ≡ Some p → slice_get ops p ≡ Some o → o.kind ≡ Refused → ⊥
+  NoneRefused n = (i p : ℕ) (o : Op R) → i < n → slice_get order i ≡ Some p → slice_get ops p ≡ Some o →
+      o.kind ≡ Refused → ⊥
 
   -- the first refused write stands here, with so many writes before it
   pub record IsFirstRefusal (entry place writes : ℕ) : Type 0 where

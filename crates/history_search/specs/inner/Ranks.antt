@@ -90,12 +90,15 @@ pub record IsNoLater (x y : Rank) : Type 0 where
   pub first : x.late ≡ y.late → x.first ≤ y.first
   pub last : x.late ≡ y.late → x.first ≡ y.first → x.last ≤ y.last
   pub group : x.late ≡ y.late → x.first ≡ y.first → x.last ≡ y.last → x.group ≤ y.group
-  pub answers : x.late ≡ y.late → x.first ≡ y.first → x.last ≡ y.last → x.group ≡ y.group → x.answers ≡ true → y.answers ≡ true
-  pub starts : x.late ≡ y.late → x.first ≡ y.first → x.last ≡ y.last → x.group ≡ y.group → x.answers ≡ y.answers → x.starts ≤ y.starts
+  pub answers : x.late ≡ y.late → x.first ≡ y.first → x.last ≡ y.last → x.group ≡ y.group →
+      x.answers ≡ true → y.answers ≡ true
+  pub starts : x.late ≡ y.late → x.first ≡ y.first → x.last ≡ y.last → x.group ≡ y.group → x.answers ≡ y.answers →
+      x.starts ≤ y.starts
 
 -- in order
 abbrev pub AreInOrder : List Rank → Type 0
-AreInOrder ranks = (i j : ℕ) (x y : Rank) → slice_get ranks i ≡ Some x → slice_get ranks j ≡ Some y → i < j → IsNoLater x y
+AreInOrder ranks = (i j : ℕ) (x y : Rank) → slice_get ranks i ≡ Some x → slice_get ranks j ≡ Some y →
+    i < j → IsNoLater x y
 
 -- the end of the operation at a place, if it has one
 abbrev pub ends_at : {R : Type 0} → List (Op R) → ℕ → Option ℕ
@@ -108,7 +111,8 @@ IsTurned ops x y = IsSomeAnd (ends_at ops y.place) (λ end. end < x.starts)
 -- of these ranks none stands before one whose operation precedes its own
 abbrev pub NoneTurned : {R : Type 0} → List (Op R) → List Rank → ℕ → Type 0
 NoneTurned ops ranks n =
-    (i j : ℕ) (x y : Rank) → i < j → j < n → slice_get ranks i ≡ Some x → slice_get ranks j ≡ Some y → IsTurned ops x y → ⊥
+    (i j : ℕ) (x y : Rank) → i < j → j < n → slice_get ranks i ≡ Some x → slice_get ranks j ≡ Some y →
+    IsTurned ops x y → ⊥
 
 -- the earlier of two ends, of which either may be missing
 abbrev pub earliest : Option ℕ → Option ℕ → Option ℕ

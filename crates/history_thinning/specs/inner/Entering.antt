@@ -1,5 +1,6 @@
 -- How one more operation is entered. Only private functions cite this, which is this project's own.
-use Rattle.std.specs.Prelude.{◌≡◌, ℕ, Bool, false, List, slice_get, Option, None, Some, nat_eq, nat_lt, if◌then◌else◌, ◌⊎◌}
+use Rattle.std.specs.Prelude.{◌≡◌, ℕ, Bool, false, List, slice_get, Option, None, Some}
+use Rattle.std.specs.Prelude.{nat_eq, nat_lt, if◌then◌else◌, ◌⊎◌}
 use Rattle.std.specs.Option.{option_and_then, option_map}
 use Rattle.history_core.specs.declared.history.Op.{Op}
 use Rattle.history_core.specs.declared.history.Kind.{Kind}
@@ -21,11 +22,13 @@ written_number Read item = None
 written_number Refused item = None
 
 abbrev pub write_place : List Group → ℕ → Option ℕ
-write_place groups number = option_and_then (λ (g : Group). option_map (λ (m : Placed). m.place) g.write) (slice_get groups number)
+write_place groups number = option_and_then (λ (g : Group). option_map (λ (m : Placed). m.place) g.write)
+    (slice_get groups number)
 
 abbrev pub write_fault : List Group → ℕ → ℕ → Option SearchError
 write_fault groups number place =
-    if nat_eq number 0 then Some (WritesOpening place) else option_map (λ first. WritesTwice first place) (write_place groups number)
+    if nat_eq number 0 then Some (WritesOpening place)
+    else option_map (λ first. WritesTwice first place) (write_place groups number)
 
 -- why an operation at this place isn't entered, if so
 abbrev pub entry_fault : List Group → Op ℕ → ℕ → Option SearchError

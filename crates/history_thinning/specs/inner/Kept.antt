@@ -1,6 +1,7 @@
--- What is kept of each record, while a log is read. Only callers' invariants and private functions cite this, which is this project's
--- own; what is kept at the end stands in Thinnings.
-use Rattle.std.specs.Prelude.{◌≡◌, ℕ, ◌≤◌, true, List, slice_get, Option, None, Some, IsSome, IsSomeAnd, nat_lt, if◌then◌else◌}
+-- What is kept of each record, while a log is read. Only callers' invariants and private functions cite this, which is
+-- this project's own; what is kept at the end stands in Thinnings.
+use Rattle.std.specs.Prelude.{◌≡◌, ℕ, ◌≤◌, true, List, slice_get, Option, None, Some, IsSome}
+use Rattle.std.specs.Prelude.{IsSomeAnd, nat_lt, if◌then◌else◌}
 use Rattle.history_core.specs.declared.history.Op.{Op}
 use Rattle.history_core.specs.declared.history.Kind.{Kind}
 use Rattle.history_core.specs.declared.history.Kind.TheVariants.{Write, Read, Refused}
@@ -67,7 +68,8 @@ pub record IsGroup (log : List (Op ℕ)) (number : ℕ) (group : Group) : Type 0
 -- what is kept of the record of an operation stands for it
 pub record StandsFor (group : Group) (p : ℕ) (o : Op ℕ) : Type 0 where
   pub write : is_write o.kind ≡ true → (m : Placed) × (group.write ≡ Some m) × (m.place ≡ p)
-  pub first : (end : ℕ) → o.ends ≡ Some end → (m : Placed) × (group.first ≡ Some m) × IsSomeAnd m.op.ends (λ least. least ≤ end)
+  pub first : (end : ℕ) → o.ends ≡ Some end →
+      (m : Placed) × (group.first ≡ Some m) × IsSomeAnd m.op.ends (λ least. least ≤ end)
   pub last : (m : Placed) × (group.last ≡ Some m) × (o.starts ≤ m.op.starts)
   pub refused : o.kind ≡ Refused → (m : Placed) × (group.refused ≡ Some m)
 

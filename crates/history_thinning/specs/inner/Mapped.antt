@@ -17,7 +17,8 @@ abbrev pub reason_in : List ℕ → Reason → Reason
 reason_in places (Unwritten read) = Unwritten (place_in places read)
 reason_in places (Early read write) = Early (place_in places read) (place_in places write)
 reason_in places (Stale before read) = Stale (place_in places before) (place_in places read)
-reason_in places (Crossed a b c d) = Crossed (place_in places a) (place_in places b) (place_in places c) (place_in places d)
+reason_in places (Crossed a b c d) = Crossed (place_in places a) (place_in places b) (place_in places c)
+    (place_in places d)
 reason_in places (Limit refused) = Limit (place_in places refused)
 
 -- the places in the log of the writes among the first n entries of an order of kept operations

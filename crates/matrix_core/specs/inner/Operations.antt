@@ -1,9 +1,10 @@
--- What the steps of both players make of operations, and the greatest record of a term's end. Only the players go by this; what a
--- report is, its own words say. This is this project's own.
+-- What the steps of both players make of operations, and the greatest record of a term's end. Only the players go by
+-- this; what a report is, its own words say. This is this project's own.
 use Rattle.std.specs.Prelude.{ℕ, zero, suc, List, [], ◌∷◌, None, Some}
 use Rattle.history_core.specs.declared.history.Op.{Op}
 use Rattle.history_core.specs.declared.history.Term.{Term}
-use Rattle.history_core.specs.declared.history.Kind.TheVariants.{Write as WriteKind, Read as ReadKind, Refused as RefusedKind}
+use Rattle.history_core.specs.declared.history.Kind.TheVariants.{Write as WriteKind, Read as ReadKind}
+use Rattle.history_core.specs.declared.history.Kind.TheVariants.{Refused as RefusedKind}
 use Rattle.history_core.specs.declared.wish.Wish.{Wish}
 use Rattle.history_core.specs.declared.wish.Wish.TheVariants.{Write, Read}
 use Rattle.matrix_core.specs.declared.stamp.Stamped.{Stamped}

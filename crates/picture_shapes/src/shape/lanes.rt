@@ -2,7 +2,8 @@
 
 ghost use Rattle.std.specs.Prelude.{◌≡◌, ◌+◌, ◌-◌, ◌<◌, ◌≤◌, ◌^◌, ◌++◌, length};
 ghost use Rattle.history_core.specs.Others.{other};
-ghost use Rattle.picture_shapes.specs.Shapes.{actor_name, cell_name, lane_head, lane_name, lane_words, row_text, row_y, side_name};
+ghost use Rattle.picture_shapes.specs.Shapes.{actor_name, cell_name, lane_head, lane_name, lane_words};
+ghost use Rattle.picture_shapes.specs.Shapes.{row_text, row_y, side_name};
 
 use crate::places::y_of;
 use print_report::Line;
@@ -14,7 +15,8 @@ pub enum Lanes {
     Actors,
     /// The writer and the reader of a cell, and its four slots.
     Cell,
-    /// So many processes, and the cells of their board: those that process 0 writes, then those of process 1, and so on.
+    /// So many processes, and the cells of their board: those that process 0 writes, then
+    /// those of process 1, and so on.
     Board { processes: usize },
 }
 

@@ -1,7 +1,8 @@
 //! The points of an order, the places of operations, and the joins between two of them.
 
 ghost use Rattle.std.specs.Prelude.{◌≡◌, ◌+◌, ◌≤◌, ◌++◌, length};
-ghost use Rattle.picture_shapes.specs.Shapes.{circle_text, join_head, join_text, place_head, place_text, point_number, point_text};
+ghost use Rattle.picture_shapes.specs.Shapes.{circle_text, join_head, join_text, place_head, place_text};
+ghost use Rattle.picture_shapes.specs.Shapes.{point_number, point_text};
 ghost use Rattle.picture_shapes.specs.Shapes.{spot_text};
 
 use crate::shape::{Join, Spot};

@@ -30,8 +30,8 @@ fn have_answer<F: Family<Posted<Band>>>(lanes: &[Lane<Band, F>]) -> bool {
 
 const READ: &[&[u64]] = &[&[0], &[]];
 
-/// Process 1 writes and tells process 0, which learns it. Then process 0 reads in a lane, and process 1 has one with no call: lane 0 was
-/// answered with that record, and the check says so of its first call.
+/// Process 1 writes and tells process 0, which learns it. Then process 0 reads in a lane, and process 1 has one with no
+/// call: lane 0 was answered with that record, and the check says so of its first call.
 pub fn told_from_outside<R: Threads + Sync, F: SharedFamily<Posted<Band>>>(
     rt: &R,
     alloc: Global,

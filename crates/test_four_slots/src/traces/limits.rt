@@ -1,6 +1,6 @@
-//! A schedule of a hundred thousand steps, ten thousand writes and as many reads, in which writer and reader take turns step by
-//! step. Followed by hand, each read begins one step after its write and gets the write before, and the slots come round after
-//! four writes.
+//! A schedule of a hundred thousand steps, ten thousand writes and as many reads, in which writer and reader take turns
+//! step by step. Followed by hand, each read begins one step after its write and gets the write before, and the slots
+//! come round after four writes.
 
 use super::has;
 use four_slot_core::{CellSchedule, Turn};

@@ -1,5 +1,5 @@
-//! Schedules played, with the reports that were worked out by hand. The opening is 0, the noise 987, and the writes store 1,
-//! 2 and 3.
+//! Schedules played, with the reports that were worked out by hand. The opening is 0, the noise 987, and
+//! the writes store 1, 2 and 3.
 
 use super::has;
 use four_slot_core::{CellReport, CellSchedule, Turn};
@@ -9,8 +9,8 @@ use history_core::{History, Items, Kind, MAX_LIMIT, Op, PlayError, Term, Verdict
 use std::alloc::{AllocError, Global};
 use std::test::Fail;
 
-/// A schedule: its steps, of the letters `w` and `r`, its writes and the number of its reads. And its report: the operations, their
-/// slots and their order.
+/// A schedule: its steps, of the letters `w` and `r`, its writes and the number of its reads. And its report: the
+/// operations, their slots and their order.
 #[derive(Clone, Copy)]
 struct Row {
     steps: &'static str,

@@ -18,7 +18,8 @@ fn one_writer(alloc: Global, n: usize) -> Result<Vec<Items<Wish<Band>>>, AllocEr
     Ok(plans)
 }
 
-/// A term in which the first of n processes writes and then the last one reads, each in so many accesses for each other process.
+/// A term in which the first of n processes writes and then the last one reads, each in so many
+/// accesses for each other process.
 fn first_and_last(
     alloc: Global,
     n: usize,
@@ -64,7 +65,8 @@ fn is_board_of(alloc: Global, schedule: &BoardSchedule<Band>, ops: &[Op<Band>]) 
     }
 }
 
-/// Whether a matrix and a board of n processes, of which the first writes and then the last one reads, give this write and this read.
+/// Whether a matrix and a board of n processes, of which the first writes and then the last one reads,
+/// give this write and this read.
 fn plays(alloc: Global, n: usize) -> Result<bool, AllocError> {
     let matrix = schedule(first_and_last(alloc, n, 2)?);
     let board = board(first_and_last(alloc, n, 10)?);
@@ -160,8 +162,8 @@ fn is_matrix_to(
     }
 }
 
-/// 16 terms of 16 processes, in each of which process 15 makes 208 writes and one more that is cut off in its tenth step: 3,344
-/// operations and 100,000 steps.
+/// 16 terms of 16 processes, in each of which process 15 makes 208 writes and one more that is cut off in its tenth
+/// step: 3,344 operations and 100,000 steps.
 fn is_matrix_at_the_limits(alloc: Global) -> Result<bool, AllocError> {
     let schedule = schedule(sixteen_terms(alloc, MAX_LIMIT, 16, 209)?);
     let last = op!(Write, 15, 99_990, None, Some(B));

@@ -9,8 +9,8 @@ loop-k-init g c = λ j h lt at. absurd (omega (arith, lt))
 
 pub loop-k-preserved : goal.loop-k-preserved
 loop-k-preserved g c =
-    none_more g.H.Hand.live g.H.Hand.side g.H.Hand.CODE c.args.handles.now c.loop-k.k c.index-handles-k.result c.loop-k.invariant c.loop-k-test.true
-    c.index-handles-k.is (c.if-is_live.ensures.dead refl)
+    none_more g.H.Hand.live g.H.Hand.side g.H.Hand.CODE c.args.handles.now c.loop-k.k c.index-handles-k.result c.loop-k.invariant
+    c.loop-k-test.true c.index-handles-k.is (c.if-is_live.ensures.dead refl)
 
 pub returns-then-is_live-clause-some : goal.returns-then-is_live-clause-some
 returns-then-is_live-clause-some g c = λ _. (

@@ -50,5 +50,5 @@ learn-requires g c = search rules
 pub returns-clause-pass : goal.returns-clause-pass
 returns-clause-pass g c =
     let old = c.args.pass.now in
-    still g.F.Family g.V.RecordLaw.obeys c.args.self.now old (record old { seat = c.learn.new.seat }) c.requires.pass (returns-clause-same g c) refl
-    c.learn.ensures.own.0 c.learn.ensures.own.1
+    still g.F.Family g.V.RecordLaw.obeys c.args.self.now old (record old { seat = c.learn.new.seat }) c.requires.pass
+    (returns-clause-same g c) refl c.learn.ensures.own.0 c.learn.ensures.own.1

@@ -45,8 +45,9 @@ pub column-requires-clause-plan : goal.column-requires-clause-plan
 column-requires-clause-plan g c = may_read g.F.Family g.V.RecordLaw.obeys c.args.self.now c.args.pass.now c.requires
 
 pub tell_row-requires-clause-plan : goal.tell_row-requires-clause-plan
-tell_row-requires-clause-plan g c = may_write g.F.Family g.V.RecordLaw.obeys c.args.self.now c.args.pass.now c.requires c.column.new.seat Read
-    c.column.new.seen c.column.new.seen c.column.ensures.read (λ place. (refl, refl))
+tell_row-requires-clause-plan g c =
+    may_write g.F.Family g.V.RecordLaw.obeys c.args.self.now c.args.pass.now c.requires c.column.new.seat Read c.column.new.seen
+    c.column.new.seen c.column.ensures.read (λ place. (refl, refl))
 
 pub tell_row-requires-clause-of : goal.tell_row-requires-clause-of
 tell_row-requires-clause-of g c = search rules

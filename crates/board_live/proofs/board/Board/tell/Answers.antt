@@ -46,5 +46,5 @@ tell-told-requires g c = search rules
 pub returns-clause-pass : goal.returns-clause-pass
 returns-clause-pass g c =
     let old = c.args.pass.now in
-    still g.F.Family g.V.RecordLaw.obeys c.args.self.now old (record old { seat = c.tell-told.new.seat }) c.requires (returns-clause-same g c) refl
-    c.tell-told.ensures.own.0 c.tell-told.ensures.own.1
+    still g.F.Family g.V.RecordLaw.obeys c.args.self.now old (record old { seat = c.tell-told.new.seat }) c.requires
+    (returns-clause-same g c) refl c.tell-told.ensures.own.0 c.tell-told.ensures.own.1

@@ -11,7 +11,8 @@ returns g c =
     let lent = c.place-lent.ensures.value ∙ ap (λ f. placed_by f.put) c.inside.ensures.value in (
       (
         refl,
-        λ w. same_writer g.row.W g.W.Clone _ _ (λ i. record { inner = filler_with (c.inside.ensures.value i) (numbered (lent i).number w) }) refl,
+        λ w. same_writer g.row.W g.W.Clone _ _
+            (λ i. record { inner = filler_with (c.inside.ensures.value i) (numbered (lent i).number w) }) refl,
       ),
       record { lent = tt; value = ap (λ a. a.words) lent },
     )

@@ -19,5 +19,17 @@ returns-clause-announced g c = λ q is holds.
     let a = c.ask-pair.ensures.asked q is holds in
     let h = a.5 (λ e. c.if-pair-said.false (e ∙ sym (t.3 ∙ ap (λ (z : ReaderNotes g.row.T.Denot). word_said z.chosen) also))) in
     let n1 : ReaderNotes g.row.T.Denot = asked_by q a.0 a.2 in
-    let b = c.say.ensures.said n1 h.0 (h.1 ∙ holds) in
-    (a.0, a.1, a.2, b.0, 1, a.3, le_of_lt b.1, (λ e. absurd (c.if-pair-said.false (e ∙ sym (t.3 ∙ ap (λ (z : ReaderNotes g.row.T.Denot). word_said z.chosen) also)))), (λ _. refl), b.2, b.3)
+    let b = c.say.ensures.said n1 h.0 (h.1 ∙ holds) in (
+      a.0,
+      a.1,
+      a.2,
+      b.0,
+      1,
+      a.3,
+      le_of_lt b.1,
+      (λ e.
+          absurd (c.if-pair-said.false (e ∙ sym (t.3 ∙ ap (λ (z : ReaderNotes g.row.T.Denot). word_said z.chosen) also)))),
+      (λ _. refl),
+      b.2,
+      b.3,
+    )

@@ -7,6 +7,8 @@ use Rattle.cell_four_slot.proofs.Spread.{starts_spread}
 use Rattle.cell_four_slot.proofs.table.FourSlotTable.new.Goals as goal
 
 pub new-requires : goal.new-requires
-new-requires g c = let e : c.push-4.new.self.items ≡ c.args.first.now ∷ c.args.first.now ∷ c.args.first.now ∷ c.args.first.now ∷ [] = search rules in
+new-requires g c =
+    let e : c.push-4.new.self.items ≡ c.args.first.now ∷ c.args.first.now ∷ c.args.first.now ∷ c.args.first.now ∷ [] = search rules in
     subst (λ (xs : List g.row.T.Denot). SpreadRule g.T.Lawful.fits g.T.Lawful.rises c.args.first.now (opening (replicate 32 0) xs
-    (first_sight c.args.first.now))) (sym e) (starts_spread g.T.Lawful.fits g.T.Lawful.rises c.args.first.now (replicate 32 0) refl refl c.requires)
+    (first_sight c.args.first.now))) (sym e)
+    (starts_spread g.T.Lawful.fits g.T.Lawful.rises c.args.first.now (replicate 32 0) refl refl c.requires)

@@ -28,7 +28,8 @@ returns-clause-named g c =
     let p : WriterNotes g.row.T.Denot = writer_or (first_writer put.spare.value) put.seat.inner.me.0 in
     let e : c.tell-seat.result.inner.me ≡ (Told (snap (told_by p)), []) =
     c.tell-seat.ensures.parted.1 ∙ (λ i. (receipt_for (put.known i), [])) in
-    ap (λ m. (receipt_or (dated c.again-spare.result.value) m.0).item) e ∙ ap (λ n. last_or {T = g.row.T.Denot} n.opening p.written) c.requires
+    ap (λ m. (receipt_or (dated c.again-spare.result.value) m.0).item) e
+    ∙ ap (λ n. last_or {T = g.row.T.Denot} n.opening p.written) c.requires
 
 pub returns-clause-timed : goal.returns-clause-timed
 returns-clause-timed g c =

@@ -14,8 +14,8 @@ pub loop-from-preserved : goal.loop-from-preserved
 loop-from-preserved g c =
     let l = c.loop-from in (
       one_before (Read c.args.self.now g.T.Lawful.fits g.T.Lawful.rises g.L.Sees.sees) c.args.seat.now.who
-          (c.args.seat.now, c.args.seen.now) (l.seat, l.seen) (c.read_at.new.seat, c.read_at.new.seen) l.from l.invariant.0 c.loop-from-test.true
-          c.read_at.ensures.read,
+          (c.args.seat.now, c.args.seen.now) (l.seat, l.seen)
+          (c.read_at.new.seat, c.read_at.new.seen) l.from l.invariant.0 c.loop-from-test.true c.read_at.ensures.read,
       λ _. c.read_at.ensures.so_far,
     )
 
@@ -23,7 +23,8 @@ pub loop-from-2-init : goal.loop-from-2-init
 loop-from-2-init g c =
     let l = c.loop-from in
     let e : l.from ≡ c.args.seat.now.who + 1 - 1 = omega (arith, c.loop-from-test.false, l.auto.from-end) in (
-      subst (λ z. Column c.args.self.now g.T.Lawful.fits g.T.Lawful.rises g.L.Sees.sees c.args.seat.now c.args.seen.now z (l.seat, l.seen)) e
+      subst
+          (λ z. Column c.args.self.now g.T.Lawful.fits g.T.Lawful.rises g.L.Sees.sees c.args.seat.now c.args.seen.now z (l.seat, l.seen)) e
           l.invariant.0,
       λ some. l.invariant.1 (omega (arith, e, some)),
     )

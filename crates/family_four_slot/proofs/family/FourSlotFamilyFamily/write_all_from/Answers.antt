@@ -87,7 +87,8 @@ place-requires-in-loop-to-2 g c =
 
 pub write_at-requires-in-loop-to-2-clause-own : goal.write_at-requires-in-loop-to-2-clause-own
 write_at-requires-in-loop-to-2-clause-own g c =
-    (row_seat c.args.self.now c.args.item.now c.args.seat.now (c.loop-to-2.to - 1) c.loop-to-2.seat c.requires.own c.loop-to-2.invariant.0).0
+    (row_seat c.args.self.now c.args.item.now c.args.seat.now
+    (c.loop-to-2.to - 1) c.loop-to-2.seat c.requires.own c.loop-to-2.invariant.0).0
 
 pub write_at-requires-in-loop-to-2-clause-other : goal.write_at-requires-in-loop-to-2-clause-other
 write_at-requires-in-loop-to-2-clause-other g c =

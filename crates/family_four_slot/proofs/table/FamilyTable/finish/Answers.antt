@@ -17,8 +17,11 @@ store-requires g c =
       omega arith,
       may_show g.T.Lawful.fits g.T.Lawful.rises g.T.Planned.plan c.args.self.now.rows.inner.shared.key _ _ _ c.requires.opening.0
           c.requires.opening.1 c.requires.opening.2 c.args.self.now.rows.inner.shared.table_id.slots c.args.seat.now.inner.id c.base.result
-          c.args.seat.now.inner.me (λ _. c.args.pair) (λ _. finishes (step c.args.self.now.rows.inner.shared.table_id.slots c.base.result c.args.pair 0 none) c.args.seat.now.inner.me c.args.pair) (finishes_ok g.T.Lawful.fits g.T.Lawful.rises _ _ _ 1 (le_refl 1) _ _ _ c.args.cell _ _ t.0 t.1 (omega arith) place
-          t.2.process.has t.2.process.one t.2.notes t.2.process.held t.3 t.4 t.5),
+          c.args.seat.now.inner.me (λ _. c.args.pair)
+          (λ _. finishes (step c.args.self.now.rows.inner.shared.table_id.slots c.base.result c.args.pair 0 none)
+          c.args.seat.now.inner.me c.args.pair)
+          (finishes_ok g.T.Lawful.fits g.T.Lawful.rises _ _ _ 1 (le_refl 1) _ _ _ c.args.cell _ _ t.0 t.1
+          (omega arith) place t.2.process.has t.2.process.one t.2.notes t.2.process.held t.3 t.4 t.5),
     )
 
 pub returns-clause-shown : goal.returns-clause-shown

@@ -21,10 +21,13 @@ store-requires g c =
       c.requires.own,
       omega arith,
       may_show g.T.Lawful.fits g.T.Lawful.rises g.T.Planned.plan c.args.self.now.rows.inner.shared.key _ _ _ c.requires.opening.0
-          c.requires.opening.1 c.requires.opening.2 c.args.self.now.rows.inner.shared.table_id.slots c.args.seat.now.inner.id (c.base.result + (2 + c.args.pair))
-          c.args.seat.now.inner.me (λ _. c.args.index) (λ _. stores_on (step c.args.self.now.rows.inner.shared.table_id.slots (c.base.result + (2 + c.args.pair)) c.args.index 0 none) c.args.seat.now.inner.me c.args.index) (stores_on_ok g.T.Lawful.fits g.T.Lawful.rises _ _ _ _ _ _ c.args.cell (2 + c.args.pair) _ _ t.0 t.1 t.2
-          (word ∙ bit_word c.args.cell c.args.pair) place
-          t.3.process.has t.3.process.one t.3.notes t.4 t.3.process.held t.5 (ap (λ z. 2 + z) pair) (omega arith) t.7 t.8),
+          c.requires.opening.1 c.requires.opening.2 c.args.self.now.rows.inner.shared.table_id.slots c.args.seat.now.inner.id
+          (c.base.result + (2 + c.args.pair)) c.args.seat.now.inner.me (λ _. c.args.index)
+          (λ _. stores_on (step c.args.self.now.rows.inner.shared.table_id.slots (c.base.result + (2 + c.args.pair)) c.args.index 0 none)
+          c.args.seat.now.inner.me c.args.index)
+          (stores_on_ok g.T.Lawful.fits g.T.Lawful.rises _ _ _ _ _ _ c.args.cell (2 + c.args.pair) _ _ t.0 t.1 t.2
+          (word ∙ bit_word c.args.cell c.args.pair) place t.3.process.has t.3.process.one t.3.notes t.4 t.3.process.held t.5
+          (ap (λ z. 2 + z) pair) (omega arith) t.7 t.8),
     )
 
 pub returns-clause-stored : goal.returns-clause-stored

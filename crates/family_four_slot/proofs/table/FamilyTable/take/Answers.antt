@@ -21,10 +21,13 @@ load-requires g c =
       c.requires.own,
       omega arith,
       may_show g.T.Lawful.fits g.T.Lawful.rises g.T.Planned.plan c.args.self.now.rows.inner.shared.key _ _ _ c.requires.opening.0
-          c.requires.opening.1 c.requires.opening.2 c.args.self.now.rows.inner.shared.table_id.slots c.args.seat.now.inner.id (c.base.result + (2 + c.args.pair))
-          c.args.seat.now.inner.me (λ m. m) (takes g.T.Lawful.fits g.T.Lawful.rises (step c.args.self.now.rows.inner.shared.table_id.slots (c.base.result + (2 + c.args.pair)) 0 0 none) c.args.seat.now.inner.me) (takes_ok g.T.Lawful.fits g.T.Lawful.rises _ _ _ g.T.Lawful.reflexive g.T.Lawful.transitive _ _ _ c.args.cell (2 + c.args.pair) _ t.0
-          t.1 (word ∙ bit_word c.args.cell c.args.pair) place t.2.process.has t.2.process.one t.2.notes t.2.process.held t.3
-          (ap (λ z. 2 + z) pair) (omega arith) t.5),
+          c.requires.opening.1 c.requires.opening.2 c.args.self.now.rows.inner.shared.table_id.slots c.args.seat.now.inner.id
+          (c.base.result + (2 + c.args.pair)) c.args.seat.now.inner.me (λ m. m)
+          (takes g.T.Lawful.fits g.T.Lawful.rises
+          (step c.args.self.now.rows.inner.shared.table_id.slots (c.base.result + (2 + c.args.pair)) 0 0 none) c.args.seat.now.inner.me)
+          (takes_ok g.T.Lawful.fits g.T.Lawful.rises _ _ _ g.T.Lawful.reflexive g.T.Lawful.transitive _ _ _ c.args.cell
+          (2 + c.args.pair) _ t.0 t.1 (word ∙ bit_word c.args.cell c.args.pair)
+          place t.2.process.has t.2.process.one t.2.notes t.2.process.held t.3 (ap (λ z. 2 + z) pair) (omega arith) t.5),
     )
 
 pub returns-clause-taken : goal.returns-clause-taken

@@ -23,6 +23,6 @@ join_seat-requires g c =
       subst (λ (z : View g.row.V.Denot × View g.row.V.Denot). Joins
           (FamilyRule m.blank (m.layout n) R P n) c.args.seat.now.inner.id z.0 c.args.receipt.inner.id z.1
           (learnt_by m.hears z.0 z.1) no_one) (λ i. (sym t.1 i, sym (ap (λ m. m.0) u.1) i))
-          (family_learns m.blank m.receipt m.hears m.plain m.deaf m.mute (m.layout n) R P m.idle n (m.learns o) (m.stays o c.args.self.now.inner.shared.key.limit n)
-          c.args.seat.now.inner.id c.args.receipt.inner.id t.0 u.0 t.2),
+          (family_learns m.blank m.receipt m.hears m.plain m.deaf m.mute (m.layout n) R P m.idle n (m.learns o)
+          (m.stays o c.args.self.now.inner.shared.key.limit n) c.args.seat.now.inner.id c.args.receipt.inner.id t.0 u.0 t.2),
     )

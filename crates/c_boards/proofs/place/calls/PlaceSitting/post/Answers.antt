@@ -11,7 +11,14 @@ returns-in-Ok-clause-posted g c =
     (subst (λ p. HasPosted g.F.Family g.V.RecordLaw.obeys c.deref.result.now c.deref.result.now
     p c.write.new.pass c.args.words.now c.in-Ok.stamp)
     c.as_mut.ensures.value
-    (record { same = refl; seen = call.0; call = call.1; chosen = call.2; raised = c.in-Ok.ensures.raised; so_far = c.in-Ok.ensures.so_far }))
+    (record {
+      same = refl;
+      seen = call.0;
+      call = call.1;
+      chosen = call.2;
+      raised = c.in-Ok.ensures.raised;
+      so_far = c.in-Ok.ensures.so_far;
+    }))
 
 pub returns-in-Err-clause-refused : goal.returns-in-Err-clause-refused
 returns-in-Err-clause-refused g c =

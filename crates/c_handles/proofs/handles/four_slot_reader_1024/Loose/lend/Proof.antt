@@ -80,7 +80,8 @@ module _ {M : Type 1} {𝓤 : Ura M} (𝓛 : Logic 𝓤) (d : L.Denot) (rb ro b 
   back full at_b w =
       qed 𝓛 (‵ (part_at S full_share w b o) ∷ ‵ (Rest rb ro b o) ∷ []) ∵ move ! (1 ∷ []) $ fsplit ! $
       move ! (2 ∷ 0 ∷ []) $ fjoin ! $
-      rewrite ! 0 (λ (p : Ptr). ‵ (loosely S true p w)) (sym at_b) refl $ rewrite ! 0 (λ (y : Bool). ‵ (loosely S y d.at w)) (sym full) refl $
+      rewrite ! 0 (λ (p : Ptr). ‵ (loosely S true p w)) (sym at_b) refl $
+      rewrite ! 0 (λ (y : Bool). ‵ (loosely S y d.at w)) (sym full) refl $
       loose_in ! d.at d.full w $ move ! (1 ∷ []) $
       rewrite ! 0 (λ (p : Ptr). ‵ (cell_at full_share L.mir (at_word p ∷ []) rb ro)) (sym at_b) refl $ fjoin ! $
       fpack ! (List Val) (λ us. fsep (cell_at full_share L.mir us rb ro) (L.own_val (with_side d w) us)) (at_word d.at ∷ []) $ done !
