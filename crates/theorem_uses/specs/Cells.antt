@@ -1,11 +1,11 @@
 -- Consequences of the calls of a running cell, in exact values (this project's own).
-use Rattle.std.specs.Prelude.{◌≡◌, ◌≢◌, ◌⊎◌, ℕ, ◌+◌, ◌<◌, ◌≤◌, List, [], ◌∷◌, length, slice_get, Some, None}
+use Rattle.std.specs.Prelude.{◌≡◌, ◌≢◌, ◌⊎◌, ℕ, ◌+◌, ◌<◌, ◌≤◌, List, [], ◌∷◌, length, slice_get, Some}
 use Rattle.history_core.specs.declared.history.Op.{Op}
 use Rattle.history_core.specs.declared.history.Kind.TheVariants.{Write, Read}
 use Rattle.cell_contract.specs.declared.times.Times.{Times}
 use Rattle.cell_contract.specs.declared.times.Known.{Known}
 use Rattle.cell_contract.specs.Histories.{AreOps}
-use Rattle.cell_contract.specs.Intervals.{AreAtomic, AreFirst, AreHeeded, At, HaveEnded, IsNextAnswer}
+use Rattle.cell_contract.specs.Intervals.{AreAtomic, AreHeeded, At, HaveEnded, IsNextAnswer}
 use Rattle.cell_contract.specs.Intervals.{IsNextCall, IsNoOlder, known_as}
 use Rattle.cell_contract.specs.Running.{IsAnswer, last_or, Settled}
 

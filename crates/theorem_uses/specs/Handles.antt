@@ -1,5 +1,5 @@
 -- Consequences of a write through C, by its status (this project's own).
-use Rattle.std.specs.Prelude.{◌≡◌, ◌≢◌, ℕ, ◌+◌, ◌≤◌, ◌^◌, List, [], ◌∷◌, ◌++◌}
+use Rattle.std.specs.Prelude.{◌≡◌, ◌≢◌, ℕ, ◌+◌, ◌≤◌, ◌^◌, [], ◌∷◌, ◌++◌}
 use Rattle.cell_contract.specs.Intervals.{IsNextCall}
 use Rattle.cell_four_slot.specs.Words.{cell_name, get_notes, is_get_of, is_put_of, opening_of}
 use Rattle.cell_four_slot.specs.Words.{pair_shown, put_notes, put_times}

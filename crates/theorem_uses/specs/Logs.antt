@@ -1,7 +1,6 @@
 -- Consequences of what the logs of tasks say, entry by entry (this project's own).
 use Rattle.std.specs.Prelude.{◌≡◌, ◌⊎◌, Bool, IsTrue, IsFalse, ℕ, ◌+◌, ◌<◌, ◌≤◌, List, []}
 use Rattle.std.specs.Prelude.{◌∷◌, length, map, slice_get, Some}
-use Rattle.history_core.specs.declared.history.Kind.TheVariants.{Write as WriteKind, Read as ReadKind, Refused}
 use Rattle.history_core.specs.declared.wish.Wish.{Wish}
 use Rattle.history_core.specs.declared.wish.Wish.TheVariants.{Write, Read}
 use Rattle.matrix_core.specs.declared.stamp.Stamp.{Stamp}
@@ -17,7 +16,7 @@ use Rattle.board_tasks.specs.declared.lane.Reply.{Reply}
 use Rattle.board_tasks.specs.declared.lane.Reply.TheVariants.{Written, Seen, Ended}
 use Rattle.board_tasks.specs.declared.lane.Entry.{Entry}
 use Rattle.board_tasks.specs.declared.lane.Lane.{Lane}
-use Rattle.board_tasks.specs.Tasks.{AreCalls, IsEntry, kind_by, Replies}
+use Rattle.board_tasks.specs.Tasks.{AreCalls, kind_by, Replies}
 use Rattle.board_tasks.specs.Worked.{AreAtomicLogs, HasChosenBy, HaveWorked}
 use Rattle.board_tasks.specs.declared.origin.Origin.TheVariants.{Sound, Broken}
 use Rattle.board_tasks.specs.Origins.{has_origin, in_order, IsOrigin, stamp_before}

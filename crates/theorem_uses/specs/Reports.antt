@@ -1,9 +1,9 @@
 -- Consequences of a report and of a search, operation by operation (this project's own).
-use Rattle.std.specs.Prelude.{◌≡◌, ◌≢◌, ℕ, ◌+◌, ◌-◌, ◌<◌, ◌≤◌, List, [], ◌∷◌, slice_get, Some, IsSome, ◌⊎◌}
+use Rattle.std.specs.Prelude.{◌≡◌, ℕ, ◌+◌, ◌-◌, ◌<◌, ◌≤◌, List, [], ◌∷◌, slice_get, Some, IsSome, ◌⊎◌}
 use Rattle.history_core.specs.declared.history.Op.{Op}
 use Rattle.history_core.specs.declared.history.Term.{Term}
 use Rattle.history_core.specs.Orders.{IsAtomicOrder, RefusesLawfully}
-use Rattle.history_core.specs.Schedules.{access_at, Follows, HasShape, planned, Span}
+use Rattle.history_core.specs.Schedules.{access_at, Follows, planned, Span}
 use Rattle.four_slot_core.specs.Accesses.{IsSameSlot}
 use Rattle.history_core.specs.Registers.{IsBefore}
 use Rattle.four_slot_core.specs.Play.{cell_span, item_of}
