@@ -4,6 +4,7 @@ use Rattle.read_document.specs.declared.key.Key.{Key}
 use Rattle.read_document.specs.declared.key.Key.TheVariants.{Opening, Noise, Limit, Ops, Order}
 use Rattle.read_document.specs.declared.key.Key.TheVariants.{Writes, Reads, Steps, Plans, Scripts, Terms}
 use Rattle.read_document.specs.declared.key.Key.TheVariants.{Who, Kind, Begin, End, Record, Key as OfKey}
+use Rattle.read_document.specs.declared.key.Key.TheVariants.{Repeats, From, Swapped, Found}
 
 abbrev pub name_of : Key → List ℕ
 name_of Opening = codes "opening"
@@ -23,3 +24,7 @@ name_of Begin = codes "begin"
 name_of End = codes "end"
 name_of Record = codes "record"
 name_of OfKey = codes "key"
+name_of Repeats = codes "repeats"
+name_of From = codes "from"
+name_of Swapped = codes "swapped"
+name_of Found = codes "found"

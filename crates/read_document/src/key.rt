@@ -22,6 +22,10 @@ pub enum Key {
     End,
     Record,
     Key,
+    Repeats,
+    From,
+    Swapped,
+    Found,
 }
 
 impl Key {
@@ -49,6 +53,10 @@ impl Key {
             Key::End => "end",
             Key::Record => "record",
             Key::Key => "key",
+            Key::Repeats => "repeats",
+            Key::From => "from",
+            Key::Swapped => "swapped",
+            Key::Found => "found",
         }
     }
 }
