@@ -100,7 +100,7 @@ def page_of_fsr(fsr):
 
 def page_of_picture(picture):
     usage = said_by(picture, "--help").strip().rpartition(": ")[2].removeprefix("./")
-    says = re.match(r"//! `picture`: (.*)\n", text_of("crates/picture/src/main.rt"))[1].rstrip(".")
+    says = re.match(r"//! `picture`: ((?:.*\n//! )*.*)\n", text_of("crates/picture/src/main.rt"))[1].replace("\n//!", "").rstrip(".")
     return page("picture", says, [usage], [".SH DESCRIPTION", f"What fsr check, fsr order and fsr play take, as SVG. {roff('It takes no words.')}"])
 
 

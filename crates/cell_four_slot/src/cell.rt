@@ -1,9 +1,9 @@
 //! The four-slot cell: four words of one bit and four slots.
 //!
-//! Word 0 is `latest`, word 1 `reading`, words 2 and 3 are the bits of the pairs, and a slot's number is `2 * pair +
-//! index`. So its rule numbers the words; in the table they lie apart (`specs/Spread.antt`). The rule says that words,
-//! slots and views show a state of the four-slot register which keeps that register's invariant, and to which some
-//! interleaving of the two passes' events leads from the opening.
+//! Word 0 is `latest`, word 1 `reading`, words 2 and 3 are the bits of the pairs, and a slot's number is
+//! `2 * pair + index`. So its rule numbers the words; in the table they lie apart (`specs/Spread.antt`). The rule says
+//! that words, slots and views show a state of the four-slot register which keeps that register's invariant, and to
+//! which some interleaving of the two passes' events leads from the opening.
 ghost use Rattle.std.specs.Prelude.{◌≡◌, [], ◌∷◌};
 ghost use Rattle.four_slot_core.specs.declared.state.Stage.TheVariants.{W5};
 ghost use Rattle.four_slot_core.specs.declared.state.ReaderStage.TheVariants.{R5};
@@ -52,8 +52,8 @@ pub struct FourSlotPut<T: Copy> {
     ghost idle: { (writer_or (first_writer spare.value) seat.inner.me.0).stage ≡ W5 },
     ghost bits: { bit_words (writer_or (first_writer spare.value) seat.inner.me.0).remembered ≡ remembered },
     ghost shown: { latest ≡ bit_number (writer_or (first_writer spare.value) seat.inner.me.0).latest },
-    ghost newest: { let p = writer_or (first_writer spare.value) seat.inner.me.0 in p.finished.value
-        ≡ last_or p.opening.value p.written },
+    ghost newest: { let p = writer_or (first_writer spare.value) seat.inner.me.0 in
+        p.finished.value ≡ last_or p.opening.value p.written },
 }
 
 /// The right to read a four-slot cell. From its first read on it holds the slot of its last answer.
@@ -66,8 +66,8 @@ pub struct FourSlotGet<T: Copy> {
     pub(crate) spare: Spare<T>,
     ghost known: { seat.inner.me.0 ≡ Reader (reader_or (first_reader spare.value) seat.inner.me.0) },
     ghost idle: { (reader_or (first_reader spare.value) seat.inner.me.0).stage ≡ R5 },
-    ghost holds: { let g = reader_or (first_reader spare.value) seat.inner.me.0 in seat.inner.me.1
-        ≡ slot_of_choice g.chosen g.at_hand.value },
+    ghost holds: { let g = reader_or (first_reader spare.value) seat.inner.me.0 in
+        seat.inner.me.1 ≡ slot_of_choice g.chosen g.at_hand.value },
     ghost stored: { said ≡ word_said (reader_or (first_reader spare.value) seat.inner.me.0).chosen },
 }
 

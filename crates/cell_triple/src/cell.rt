@@ -54,8 +54,8 @@ pub struct TripleGet<T: Copy> {
     /// The opening: the notes' default in proofs.
     pub(crate) spare: Spare<T>,
     ghost known: { seat.inner.me.0 ≡ Reader (reader_or (first_reader spare.value) seat.inner.me.0) },
-    ghost ready: { let g = reader_or (first_reader spare.value) seat.inner.me.0 in (g.has ≡ 1) × (g.slot ≡ slot)
-        × (g.asked ≡ 0) },
+    ghost ready: { let g = reader_or (first_reader spare.value) seat.inner.me.0 in
+        (g.has ≡ 1) × (g.slot ≡ slot) × (g.asked ≡ 0) },
     ghost held: { seat.inner.me.1 ≡ (slot, (reader_or (first_reader spare.value) seat.inner.me.0).at_hand.value) ∷ [] },
     ghost low: { slot < 3 },
 }

@@ -1,5 +1,5 @@
-//! Runs the running cells and boards for a time, and looks at each record that is read. `list` names what is run, `run
-//! MINUTES` runs it, and `planted` looks for a planted bug. A run ends with status 1 at the first torn, older or
+//! Runs the running cells and boards for a time, and looks at each record that is read. `list` names what is run,
+//! `run MINUTES` runs it, and `planted` looks for a planted bug. A run ends with status 1 at the first torn, older or
 //! foreign record, and with status 6 where a thread can't start.
 #![tactic(auto)]
 
