@@ -4,13 +4,23 @@
 """
 
 
-def log(verdict, *rows, opening='"nil"'):
-    """A log and its verdict; a row is `who kind begin end record`, as in JSON."""
-    made = [f'{{"kind":"lines","opening":{opening}}}']
+def log(verdict, *rows, opening='"nil"', header=""):
+    """A log and its verdict; a row is `who kind begin end record`, as in JSON, or of a compare-and-set `who cas begin end from record
+    swapped`, behind which what it found may stand."""
+    made = [f'{{"kind":"lines","opening":{opening}{header}}}']
     for row in rows:
         who, kind, begin, end, record = row.split(" ", 4)
+        if kind == "cas":
+            asked, record, swapped, *found = record.split(" ")
+            record = f'{record},"swapped":{swapped}' + "".join(f',"found":{it}' for it in found)
+            end = f'{end},"from":{asked}'
         made.append(f'{{"who":{who},"kind":"{kind}","begin":{begin},"end":{end},"record":{record}}}')
     return "\n".join([*made, f'{{"kind":"done","ops":{len(rows)}}}', ""]), verdict
+
+
+def repeats(verdict, *rows, opening='"nil"'):
+    """The same of a log whose values repeat."""
+    return log(verdict, *rows, opening=opening, header=',"repeats":true')
 
 
 def jepsen(*events):
@@ -150,12 +160,11 @@ JEPSEN = {
     "no_operation": ("{:type :invoke, :f :write, :value 1, :process 0}\n:why\n", "line 2: this is no operation of a history"),
     "no_process": ("{:type :invoke, :f :write, :value 1}\n", "line 1: this is no operation of a history"),
     "no_type": ("{:f :write, :value 1, :process 0}\n", "line 1: this is no operation of a history"),
-    "no_function": ("{:type :invoke, :value 1, :process 0}\n", "line 1: nil is neither :read nor :write"),
+    "no_function": ("{:type :invoke, :value 1, :process 0}\n", "line 1: nil is no :read, :write or :cas"),
     "counted": (
-        jepsen("0 invoke cas [1 2]", "0 ok cas [1 2]", "0 invoke write 3", "0 ok write 3", "0 invoke write 3", "0 ok write 3",
-               "0 invoke cas [1 2]", "0 fail cas [1 2]", "0 invoke txn nil", "0 ok txn nil", "1 invoke read nil"),
-        "line 1: :cas is neither :read nor :write\n"
-        "of 6 operations 4 can't be said: 2 of kind `:cas`, 1 of kind `:txn`, 1 of kind `write of a value that was written before`",
+        jepsen("0 invoke append [1 2]", "0 ok append [1 2]", "0 invoke write 3", "0 ok write 3", "0 invoke write 3", "0 ok write 3",
+               "0 invoke append [1 2]", "0 fail append [1 2]", "0 invoke txn nil", "0 ok txn nil", "1 invoke cas [1 2]"),
+        "line 1: :append is no :read, :write or :cas\nof 6 operations 3 can't be said: 2 of kind `:append`, 1 of kind `:txn`",
     ),
     "other_value": (jepsen("0 invoke write 3", "0 ok write 4"), "line 2: this write ends with another value than that of line 1"),
     "other_part": (jepsen("0 invoke write [0 [nil 3]]", "0 ok write [0 [1 4]]"), "line 2: this write ends with another value than that of line 1"),
@@ -223,7 +232,82 @@ JEPSEN = {
     ),
     "wrongly_closed": ("{:a [1}", "line 1: } closes ["),
     "half_a_map": ("{:a}", "line 1: a key without a value"),
+    "cas": (
+        jepsen("0 invoke cas [nil 3]", "0 ok cas [nil 3]", "0 invoke read nil", "0 ok read 3", "1 invoke cas [3 4]", "1 ok cas nil",
+               "0 invoke read nil", "0 ok read 3"),
+        {"only": repeats("unlawful lost 5", '0 cas 0 1 "nil" 3 true', "0 read 2 3 3", "1 cas 4 5 3 4 true", "0 read 6 7 3")},
+    ),
+    "cas_unknown": (
+        jepsen("0 invoke write 3", "0 ok write 3", "1 invoke cas [3 4]", "1 info cas [3 4]", "2 invoke cas [3 5]", "0 invoke read nil", "0 ok read 4",
+               "1 invoke write 6"),
+        {"only": repeats("lawful", "0 write 0 1 3", "3 cas 2 null 3 4 null", "2 cas 4 null 3 5 null", "0 read 5 6 4", "1 write 7 null 6")},
+    ),
+    "cas_fails": (
+        jepsen("0 invoke write 3", "0 ok write 3", "1 invoke cas [3 4]", "1 fail cas [3 4]", "0 invoke read nil", "0 ok read 3"),
+        {"only": log("lawful", "0 write 0 1 3", "0 read 4 5 3")},
+    ),
+    "cas_missed": (
+        jepsen("0 invoke write 3", "0 ok write 3", "1 invoke cas [3 4]", "1 fail cas [3 4]", "0 invoke read nil", "0 ok read 3"),
+        {"only": repeats("unlawful lost 3", "0 write 0 1 3", "1 cas 2 3 3 4 false", "0 read 4 5 3")},
+        ("--failed-cas-missed",),
+    ),
+    "cas_missed_other_failures": (
+        jepsen("0 invoke write 3", "0 ok write 3", "1 invoke write 4", "1 fail write 4", "1 invoke cas [4 5]", "1 fail cas nil", "0 invoke read nil",
+               "0 fail read nil")
+        + '{:type :invoke, :f :cas, :value [3 4], :process 2}\n{:type :fail, :f :cas, :value [3 4], :process 2, :error :no-leader}\n'
+        + '{:type :invoke, :f :cas, :value [3 6], :process 2}\n{:type :info, :f :cas, :value [3 6], :process 2, :error nil}\n',
+        {"only": repeats("lawful", "0 write 0 1 3", "1 cas 4 5 4 5 false", "2 cas 10 null 3 6 null")},
+        ("--failed-cas-missed",),
+    ),
+    "cas_of_no_pair": (jepsen("0 invoke cas 3"), "line 1: a cas has the value that it asks for and the one that it leaves, and not 3"),
+    "cas_of_three": (jepsen("0 invoke cas [3 4 5]"), "line 1: a cas has the value that it asks for and the one that it leaves, and not [3 4 5]"),
+    "cas_of_a_version": (
+        jepsen("0 invoke write [0 [nil 3]]", "0 ok write [0 [1 3]]", "1 invoke cas [0 [nil [3 4]]]", "1 ok cas [0 [2 [3 4]]]"),
+        "line 3: a cas has the value that it asks for and the one that it leaves, and not [nil [3 4]]",
+    ),
+    "cas_of_other_values": (jepsen("0 invoke cas [3 4]", "0 ok cas [3 5]"), "line 2: this cas ends with another value than that of line 1"),
+    "cas_of_another_key": (jepsen("0 invoke cas [0 [3 4]]", "0 ok cas [5 [3 4]]"), "line 2: this cas ends for another key than that of line 1"),
+    "cas_without_a_key": (
+        jepsen("0 invoke write [0 3]", "0 ok write [0 3]", "0 invoke cas [3 4]"), "line 3: some values are [key value], and this is none"),
+    "cas_beside_no_key": (
+        jepsen("0 invoke write 3", "0 ok write 3", "0 invoke cas [3 4]", "0 ok cas [3 4]"),
+        {"only": repeats("lawful", "0 write 0 1 3", "0 cas 2 3 3 4 true")},
+    ),
+    "cas_ends_as_a_write": (jepsen("0 invoke cas [3 4]", "0 ok write 4"), "line 2: a write ends the cas of line 1"),
+    "cas_that_a_read_shows": (
+        jepsen("0 invoke write [0 [nil 3]]", "1 invoke cas [0 [[0 0] [2 3]]]", "1 ok cas [0 [[0 0] [2 3]]]", "2 invoke read [0 nil]", "2 ok read [0 [2 3]]"),
+        {"0": repeats("lawful", "1 cas 1 2 [0,0] [2,3] true", "2 read 3 4 [2,3]", opening="[0,0]")},
+        ("--opening", "[0 0]"),
+    ),
+    "cas_of_texts": (
+        jepsen('0 invoke cas [:a "b"]', '0 ok cas [:a "b"]'),
+        {"only": repeats("unlawful lost 2", '0 cas 0 1 ":a" "\\"b\\"" true')},
+    ),
+    "cas_of_half_a_letter": (jepsen("1 invoke write 3", '0 invoke cas ["\\ud800" 3]'), "line 2: a text with half a letter"),
+    "repeats": (
+        jepsen("0 invoke write 3", "0 ok write 3", "1 invoke read nil", "1 ok read nil"),
+        {"only": repeats("unlawful lost 3", "0 write 0 1 3", '1 read 2 3 "nil"')},
+        ("--repeats",),
+    ),
+    "repeats_of_one_key": (
+        jepsen("0 invoke write [0 3]", "0 ok write [0 3]", "0 invoke write [1 3]", "0 ok write [1 3]", "0 invoke write [1 3]"),
+        {"0": log("lawful", "0 write 0 1 3"), "1": repeats("lawful", "0 write 2 3 3", "0 write 4 null 3")},
+    ),
+    "repeats_of_the_opening": (
+        jepsen("0 invoke write 0", "1 invoke read nil", "1 ok read nil"),
+        {"only": repeats("unlawful lost 3", "0 write 0 null 0", '1 read 1 2 "nil"', opening="0")},
+        ("--opening", "0"),
+    ),
 }
+
+
+def cas(who, values, call, back, output="null"):
+    """A compare-and-set of Porcupine as JSON."""
+    asked, left = values.split(" ")
+    back = "" if back is None else f',"Return":{back}'
+    return f'{{"ClientId":{who},"Input":{{"Op":"cas","From":{asked},"To":{left}}},"Call":{call},"Output":{output}{back}}}\n'
+
+
 EVENT = '{{"ClientId":{},"Kind":{},"Value":{},"Id":{}}}\n'.format
 PORCUPINE = {
     "fail": (
@@ -245,7 +329,7 @@ PORCUPINE = {
     "no_event": ('{:process 0, :type :invoke, :f :put, :key "x", :value "1"}\nwhy\n', "line 2: this is no event"),
     "counted_keys": (
         keys("0 invoke append x 1", "0 ok append x 1", '0 invoke put x "1"', "1 invoke append x 1"),
-        "line 1: append is neither a read nor a write\nof 3 operations 2 can't be said: 2 of kind `append`",
+        "line 1: append is no read, write or cas\nof 3 operations 2 can't be said: 2 of kind `append`",
     ),
     "timed_out": (
         "INFO  jepsen.util - 0\t:invoke\t:write\t3\nINFO  jepsen.util - 0\t:fail\t:write\t:timed-out\n"
@@ -306,9 +390,8 @@ PORCUPINE = {
         {"only": log("lawful", '0 write 0 5 "{\\"a\\" 1, \\"b\\" [2 nil]}"', '1 read 6 7 "{\\"a\\" 1, \\"b\\" [2 nil]}"')},
     ),
     "counted": (
-        operation(0, "cas 3", 0, 5) + operation(0, "put 3", 6, 7) + operation(0, "put 3", 8, 9) + operation(0, "append 3", 10, 11),
-        "line 1: cas is neither a read nor a write\n"
-        "of 4 operations 3 can't be said: 1 of kind `cas`, 1 of kind `append`, 1 of kind `write of a value that was written before`",
+        operation(0, "swap 3", 0, 5) + operation(0, "put 3", 6, 7) + operation(0, "put 3", 8, 9) + operation(0, "append 3", 10, 11),
+        "line 1: swap is no read, write or cas\nof 4 operations 2 can't be said: 1 of kind `swap`, 1 of kind `append`",
     ),
     "events": (
         EVENT(0, '"call"', '{"op":"write","value":1}', '"a"') + EVENT(1, "false", '{"op":"read"}', 2) + EVENT(0, '"return"', "null", '"a"')
@@ -327,8 +410,8 @@ PORCUPINE = {
         "line 2: 0 begins before it has ended line 1",
     ),
     "counted_events": (
-        EVENT(0, 0, '{"op":"cas","value":1}', 1) + EVENT(0, 1, "1", 1),
-        "line 1: cas is neither a read nor a write\nof 1 operations 1 can't be said: 1 of kind `cas`",
+        EVENT(0, 0, '{"op":"append","value":1}', 1) + EVENT(0, 1, "1", 1),
+        "line 1: append is no read, write or cas\nof 1 operations 1 can't be said: 1 of kind `append`",
     ),
     "etcd": (
         put(0, "a", 10, 20, '{"Txn":{"Failure":false},"Revision":2}') + get(1, 30, 40, shown("a", 2)) + put(0, "a", 50, 60, '{"Revision":3}')
@@ -345,11 +428,46 @@ PORCUPINE = {
     "etcd_counted": (
         put(0, "a", 10, 20, '{"Revision":2}', ',{"Type":"range-operation"}') + get(1, 30, 40, "null", end="l") + get(1, 50, 60, "null", revision=1)
         + '{"ClientId":0,"Input":{"Type":"compact"},"Call":70,"Output":{},"Return":80}\n',
-        "line 1: txn of other than one put is neither a read nor a write\nof 4 operations 4 can't be said: "
+        "line 1: txn of other than one put is no read, write or cas\nof 4 operations 4 can't be said: "
         "2 of kind `range of several keys or of an old revision`, 1 of kind `txn of other than one put`, 1 of kind `compact`",
     ),
     "etcd_without_a_part": (
         '{"ClientId":0,"Input":{"Type":"range"},"Call":70,"Output":{},"Return":80}\n', "line 1: a part of this operation is missing"),
     "opening": (operation(0, "get", 1, 2, "5"), {"only": log("lawful", "0 read 1 2 5", opening="5")}, ("--opening", "5")),
+    "cas": (
+        operation(0, "put 3", 0, 5) + cas(1, "3 4", 6, 7, "true") + cas(2, "3 5", 8, 9, "false") + cas(1, "3 5", 10, 11, '{"Ok":false,"Value":4}')
+        + cas(2, "4 6", 12, None, "true") + cas(1, "6 7", 13, 14) + cas(3, "7 8", 15, 16, '{"Ok":null}') + cas(4, "8 9", 17, 18, '{"ok":true}'),
+        {
+            "only": repeats("lawful", "0 write 0 5 3", "1 cas 6 7 3 4 true", "2 cas 8 9 3 5 false", "1 cas 10 11 3 5 false 4", "2 cas 12 null 4 6 null",
+                            "1 cas 13 null 6 7 null", "3 cas 15 null 7 8 null", "4 cas 17 18 8 9 true")
+        },
+    ),
+    "cas_found_what_it_asked_for": (
+        operation(0, "put 3", 0, 5) + cas(1, "3 4", 6, 7, '{"Ok":false,"Value":3}'), "line 2: this cas found what it asked for on line 2, and did nothing"),
+    "cas_found_half": (
+        operation(0, "put 3", 0, 5) + cas(1, "3 4", 6, 7, '{"Ok":false,"Value":"\\ud800"}'), "line 2: a text with half a letter"),
+    "cas_backwards": (cas(1, "3 4", 6, 5, "false"), "line 1: this operation ends before it begins, or at no time"),
+    "cas_without_a_part": (operation(0, "cas 3", 0, 5), "line 1: a cas has a From and a To"),
+    "cas_events": (
+        EVENT(0, 0, '{"op":"cas","from":null,"to":1}', 1) + EVENT(1, 0, '{"op":"cas","from":null,"to":2}', 2) + EVENT(0, 1, "true", 1)
+        + EVENT(1, 1, '{"ok":false,"value":1}', 2),
+        {"only": repeats("lawful", '0 cas 0 2 "nil" 1 true', '1 cas 1 3 "nil" 2 false 1')},
+    ),
+    "cas_timed_out": (
+        "INFO  jepsen.util - 0\t:invoke\t:cas\t[nil 3]\nINFO  jepsen.util - 0\t:info\t:cas\t:timed-out\n"
+        "INFO  jepsen.util - 1\t:invoke\t:cas\t[3 4]\nINFO  jepsen.util - 1\t:fail\t:cas\t:timed-out\n"
+        "INFO  jepsen.util - 2\t:invoke\t:cas\t[4 5]\nINFO  jepsen.util - 2\t:fail\t:cas\t[4 5]\n"
+        "INFO  jepsen.util - 3\t:invoke\t:read\tnil\nINFO  jepsen.util - 3\t:ok\t:read\t4\n",
+        {"only": repeats("lawful", '0 cas 0 null "nil" 3 null', "1 cas 2 null 3 4 null", "2 cas 4 5 4 5 false", "3 read 6 7 4")},
+        ("--failed-cas-missed",),
+    ),
+    "cas_and_more": ("INFO  jepsen.util - 0\t:invoke\t:cas\t[3 4] 5\n", "line 1: this is no event"),
+    "cas_of_no_event": ("INFO  jepsen.util - 0\t:invoke\t:cas\t[3 4\n", "line 1: this is no event"),
+    "cas_of_keys": (
+        keys('0 invoke put x "1"', '0 ok put x "1"', '0 invoke cas x ["1" "2"]', '0 ok cas x ["1" "2"]', "1 invoke get x nil", '1 ok get x "1"'),
+        {
+            "x": repeats("unlawful lost 4", '0 write 0 1 "\\"1\\""', '0 cas 2 3 "\\"1\\"" "\\"2\\"" true', '1 read 4 5 "\\"1\\""', opening='"\\"\\""')
+        },
+    ),
 }
 ALL = {f"{tool}_{name}": (*it, ())[:3] for tool, table in (("jepsen", JEPSEN), ("porcupine", PORCUPINE)) for name, it in table.items()}

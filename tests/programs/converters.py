@@ -21,6 +21,7 @@ TOP = os.path.dirname(os.path.dirname(os.path.dirname(os.path.realpath(__file__)
 HERE = f"{TOP}/tests/programs/histories"
 sys.path.insert(0, f"{TOP}/tests/programs/reference")
 import conversions  # noqa: E402
+import exchanges  # noqa: E402
 import lines  # noqa: E402
 
 # So many seconds a converter may take.
@@ -28,26 +29,38 @@ LONGEST = 120
 LOGS = {
     "jepsen_register.edn": {"only": "lawful"},
     "jepsen_keys.edn": {"0": "unlawful stale 2 3", "_b": "lawful"},
+    "jepsen_cas.edn": {"only": "lawful"},
+    "jepsen_cas_keys.edn": {"0": "unlawful lost 5", "1": "lawful", "2": "lawful"},
+    "jepsen_repeated.edn": {"only": "lawful"},
+    "jepsen_opening.edn": {"only": "lawful"},
     "porcupine_keys.txt": {"x": "unlawful stale 3 4", "y": "lawful"},
     "porcupine_register.log": {"only": "lawful"},
     "porcupine_operations.json": {"x": "lawful"},
     "porcupine_events.jsonl": {"only": "unlawful stale 3 5"},
+    "porcupine_cas.log": {"only": "lawful"},
+    "porcupine_cas_operations.json": {"x": "unlawful lost 6", "y": "lawful"},
 }
 REFUSED = {
-    "jepsen_cas.edn": "line 3: :cas is neither :read nor :write",
-    "jepsen_repeated.edn": "line 5: writes 3 as line 1 does",
-    "jepsen_opening.edn": "line 1: writes what the register held at first",
+    "jepsen_append.edn": "line 3: :append is no :read, :write or :cas",
     "jepsen_broken.edn": "line 2: an end where a value belongs",
     "jepsen_mixed.edn": "line 3: some values are [key value], and this is none",
     "jepsen_twice.edn": "line 2: 0 begins again before line 1 has ended",
-    "porcupine_append.txt": "line 2: append is neither a read nor a write",
-    "porcupine_cas.log": "line 3: cas is neither a read nor a write",
+    "porcupine_append.txt": "line 2: append is no read, write or cas",
 }
 
 
 def text_of(path):
     with open(path, encoding="utf-8") as file:
         return file.read()
+
+
+def verdict_of(log):
+    """What a plain judge says first of a log."""
+    if exchanges.has_repeats(log.encode()):
+        text, line, _ = exchanges.answer(log.encode())
+    else:
+        text, line = lines.answer(lines.read_log(log.split("\n")))[1], ""
+    return (text + line).split("\n")[0]
 
 
 class Called:
@@ -119,7 +132,7 @@ class Converter:
         for key, (log, verdict) in wanted.items():
             if made[f"{key}.jsonl"] != self.planted_in("log", log):
                 faults.append(f"{name}: {key} is\n{made[f'{key}.jsonl']}")
-            told = lines.answer(lines.read_log(made[f"{key}.jsonl"].split("\n")))[1].split("\n")[0]
+            told = verdict_of(made[f"{key}.jsonl"])
             if told != self.planted_in("verdict", verdict):
                 faults.append(f"{name}: {key} is {told}")
         return faults

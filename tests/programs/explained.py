@@ -82,6 +82,8 @@ BY_HAND = [
     (WRITES, ["9"], "explain: line 9: this is no operation of the log\n"),
     ("", [], "explain: line 1: this is no header of a log\n"),
     (WRITES[len(head([0, 70], words=[0, 0, 0])):], [], "explain: line 1: this is no header of a log\n"),
+    (head(0, repeats=True) + op(1, "read", 1, 2, 7), [], "explain: line 1: the records of this log repeat, so none tells its write\n"),
+    (head(0, repeats=False) + op(1, "read", 1, 2, 0), [], None),
     (WRITES + "{\n", [], "explain: line 5: not JSON\n"),
     (WRITES + "7\n", [], "explain: line 5: this is no object\n"),
     (WRITES + op(1, "read", None, 2, 7), [], "explain: line 5: this is no operation\n"),

@@ -84,6 +84,12 @@ BY_HAND = [
      HEAD + row(0, "write", 0, 2**64 - 1, 1) + row(1, "write", 10, None, 2) + done(2)),
     ([], [WRITES, READS], ": no file has a header: --opening says what the register held"),
     ([], [HEAD + WRITES, '{"kind":"lines","opening":1}\n' + READS], ": the headers differ"),
+    # records that repeat, and all that an operation has
+    ([], ['{"kind":"lines","repeats":true,"opening":0}\n' + row(0, "write", 100, 110, 1), row(1, "cas", 90, 105, 1)[:-2] + ',"from":0,"swapped":null}\n'],
+     '{"kind":"lines","opening":0,"repeats":true}\n' + row(1, "cas", 90, 105, 1)[:-2] + ',"from":0,"swapped":null}\n' + row(0, "write", 100, 110, 1)
+     + done(2)),
+    ([], ['{"kind":"lines","opening":0,"repeats":1}\n' + row(0, "write", 100, 110, 1)], HEAD + row(0, "write", 100, 110, 1) + done(1)),
+    ([], [HEAD + WRITES, '{"kind":"lines","opening":0,"repeats":true}\n' + READS], ": the headers differ"),
     ([], [HEAD + WRITES, row(0, "read", 600, 610, 2)], ": its task 0 is in "),
     ([], [HEAD + WRITES + done(1)], ":4: there are 2 operations"),
     ([], [HEAD + WRITES + HEAD], ":4: a header behind the first line"),

@@ -288,7 +288,7 @@ else
     counts "join.py" python3 tests/programs/joined.py
     counts "explain.py" python3 tests/programs/explained.py
     counts "recorder.py" python3 tests/programs/recorded.py
-    for planted in log,jepsen_keys.edn verdict,jepsen_keys.edn refusal,jepsen_cas.edn history,jepsen_cas.edn; do
+    for planted in log,jepsen_keys.edn verdict,jepsen_keys.edn refusal,jepsen_append.edn history,jepsen_append.edn; do
         catches "a ${planted%,*} that isn't wanted" "${planted#*,}\|not compared" \
             counts converters python3 tests/programs/converters.py --planted "${planted%,*}" "${planted#*,}"
     done

@@ -12,7 +12,7 @@ these words, and of such ones the latest. A word of no write may be the first by
 writes: the last that had ended before the operation began, and those that ran with it. None of this is proved, and none of it is needed for
 the verdict.
 
-Status 3: this is no log, or has no such line; 5: it can't be read or written.
+Status 3: this is no log, or one whose records repeat, or has no such line; 5: it can't be read or written.
 """
 
 import argparse
@@ -47,6 +47,8 @@ def operation_of(line, row):
 def opening_of(row):
     if row.get("kind") != "lines" or "opening" not in row:
         raise lines.Refused(1, "this is no header of a log")
+    if row.get("repeats") is True:
+        raise lines.Refused(1, "the records of this log repeat, so none tells its write")
     record = value_of(row["opening"])
     return Operation(1, None, "write", -1, -1, record, value_of(row["words"]) if "words" in row else record)
 

@@ -1,7 +1,7 @@
 #!/usr/bin/env python3
 """Jepsen's history of a register, or of independent registers, to JSON Lines for `fsr order`.
 
-    jepsen.py [--to FOLDER] [--opening VALUE] [HISTORY.edn]
+    jepsen.py [--to FOLDER] [--opening VALUE] [--repeats] [--failed-cas-missed] [HISTORY.edn]
 
 The history is EDN, an operation a line or one vector of them: `{:type :invoke, :f :write, :value 3, :process 0, ..}`. Where each value is
 `[key value]`, each key has a log of its own, FOLDER/KEY.jsonl: a history is linearizable if the history of each key is. Without --to the
@@ -9,14 +9,21 @@ only log goes to standard output.
 
 - `:invoke` and `:ok` are the begin and the end of an operation. Times are the events' places in the history, so nothing touches.
 - The value is that of the `:ok`. What is `nil` in a write's `:invoke` may have become known: `[nil 3]` ends as `[7 3]`, the 7th version.
-- `:info`, or no end at all: nobody knows whether a write took effect, so it stands there without an end; one with a `nil` has the value
-  of the read that shows it, or isn't there. A read is left out.
+- `:info`, or no end at all: nobody knows whether a write or a `:cas` took effect, so it stands there without an end; a write with a `nil`
+  has the value of the read that shows it, or isn't there. A read is left out.
 - `:fail`: the operation didn't take place, and is left out.
 - What isn't done by a client (`:process :nemesis`) is left out.
 - At first each register holds `nil`, or the opening, as EDN.
+- A log with a `:cas`, `[from to]`, or with a value that is written twice or is the opening, has `"repeats":true`, with --repeats every log:
+  `fsr order` then takes it for one of a register with compare-and-set.
 
-`:cas`, transactions and all else that is neither `:read` nor `:write`, and a value that is written twice, can't be said: the first such
-line is told, and how many there are of each kind, with status 3.
+A `:cas` that ended with `:fail` is left out, too: that may mean that it found another value than `from`, but also that it was never tried,
+as when nobody listened or the node had no leader. Then another value needn't have been there, and a log that says so would condemn a right
+register. --failed-cas-missed takes each for one that found another value, but for those with an `:error`. That finds more faults; it is
+right only if the test's client gives `:fail` for nothing else.
+
+Transactions and all else that is no `:read`, `:write` or `:cas`, can't be said, nor a `:cas` of versions, `[nil [from to]]`: the first such
+line is told, and of the former how many there are of each kind, with status 3.
 """
 
 import sys
@@ -24,7 +31,7 @@ import sys
 import edn
 import lines
 
-KINDS = {":read": "read", ":write": "write"}
+KINDS = {":read": "read", ":write": "write", ":cas": "cas"}
 TYPES = (":invoke", ":ok", ":fail", ":info")
 
 
@@ -46,6 +53,12 @@ def is_pair(value):
     return isinstance(value, list) and len(value) == 2
 
 
+def has_key(event):
+    """Whether the value of an invocation is `[key value]`."""
+    value = event.get(":value")
+    return is_pair(value) and (event[":f"] != ":cas" or is_pair(value[1]))
+
+
 def is_taken(event):
     return event.get(":f") in KINDS
 
@@ -54,17 +67,17 @@ def read_history(text):
     events = list(client_events(text))
     history = lines.History()
     # (an event that tells of a failure may have another value)
-    invoked = [(line, event.get(":value")) for line, _, event in events if event[":type"] == ":invoke" and is_taken(event)]
-    keyed = {is_pair(value) for _, value in invoked}
+    invoked = [(line, has_key(event)) for line, _, event in events if event[":type"] == ":invoke" and is_taken(event)]
+    keyed = {it for _, it in invoked}
     if len(keyed) > 1:
-        first = next(line for line, value in invoked if not is_pair(value))
+        first = next(line for line, it in invoked if not it)
         raise lines.Refused(first, "some values are [key value], and this is none")
     for line, place, event in events:
         if is_taken(event):
             add_event(history, line, place, event, keyed == {True})
         elif event[":type"] == ":invoke":
             name = edn.text_of(event.get(":f"))
-            history.leave_out(lines.Untakeable(line, f"{name} is neither :read nor :write", name))
+            history.leave_out(lines.Untakeable(line, f"{name} is no :read, :write or :cas", name))
     return history
 
 
@@ -79,7 +92,7 @@ def add_event(history, line, place, event, keyed):
     elif event[":type"] == ":ok":
         history.end(line, who, kind, place, value, **key)
     elif event[":type"] == ":fail":
-        history.fail(line, who, kind)
+        history.fail(line, who, kind, place if event.get(":error") is None else None)
     else:
         history.leave(line, who, kind)
 

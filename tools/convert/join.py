@@ -5,7 +5,7 @@
 
 Each file has the operations of tasks of its own, by one clock, as JSON Lines; a header and a last line may be there. Or it is what a thread
 left in a file of `nidzaru_log_open_file`. The header that is written has the opening and the limit of a file's header, or those of the
-words, where the record is JSON. Operations stand by beginning.
+words, where the record is JSON, and says that records repeat, if it does. Operations stand by beginning.
 
 --skew NS: the clocks of two files differ by at most NS. The times of the first file stay, and intervals of all others are NS longer at both
 ends. An operation that then overlaps the one before it of its task gets a task of its own, since no interval can say both that it comes
@@ -109,16 +109,16 @@ def widen(files, skew):
 def header_of(files, words):
     headers = [it.header for it in files if it.header]
     openings = {json.dumps(it.get("opening")) for it in headers}
-    limits = {it.get("limit") for it in headers}
+    limits, repeats = {it.get("limit") for it in headers}, {it.get("repeats") is True for it in headers}
     if words.opening is not None:
         openings = {json.dumps(words.opening)}
     if words.limit is not None:
         limits = {words.limit}
-    if len(openings) != 1 or len(limits) > 1:
+    if len(openings) != 1 or len(limits) > 1 or len(repeats) > 1:
         raise lines.Refused(files[0].path, "the headers differ" if openings else "no file has a header: --opening says what the register held")
     header = {"kind": "lines", "opening": json.loads(*openings)}
     kept = next((it["words"] for it in headers if "words" in it and it.get("opening") == header["opening"]), None)
-    more = {"words": kept, "limit": next(iter(limits), None)}
+    more = {"words": kept, "limit": next(iter(limits), None), "repeats": True if True in repeats else None}
     return header | {key: it for key, it in more.items() if it is not None}
 
 

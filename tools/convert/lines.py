@@ -49,6 +49,12 @@ def name_of(value):
     return json.dumps(record_of(value))
 
 
+def is_exchange(value):
+    """Whether a value is that of a compare-and-set. `[nil [3 4]]` isn't: of a register with versions the version isn't known yet, and what
+    would be compared with what it is."""
+    return isinstance(value, list) and len(value) == 2 and not (value[0] is None and isinstance(value[1], list))
+
+
 def has_hole(value):
     """Whether a part of a value is `nil`."""
     return isinstance(value, list) and any(it is None or has_hole(it) for it in value)
@@ -62,18 +68,27 @@ def fits(value, known):
 
 
 class Call:
-    """An operation of a register, which its key names."""
+    """An operation of a register, which its key names. The value of a compare-and-set is what it asked for and what it would leave."""
 
     def __init__(self, line, who, kind, key, begin, value):
         self.line, self.who, self.kind, self.key, self.begin, self.value = line, who, kind, record_key(key), begin, value
         self.end, self.fate = None, "open"
+        # of a compare-and-set: whether it is known to have found another value, and maybe which one
+        self.missed, self.found = False, None
+        # when it failed, if it may have failed because it found another value
+        self.failed_at = None
 
     def is_vague(self):
         """Whether this is a write that never ended, of whose value a part is `nil`."""
         return self.kind == "write" and self.fate == "open" and has_hole(self.value)
 
     def row(self):
-        return {"who": self.who, "kind": self.kind, "begin": self.begin, "end": self.end, "record": record_of(self.value)}
+        row = {"who": self.who, "kind": self.kind, "begin": self.begin, "end": self.end}
+        if self.kind != "cas":
+            return {**row, "record": record_of(self.value)}
+        swapped = None if self.fate == "open" else not self.missed
+        found = {} if self.found is None else {"found": record_of(self.found)}
+        return {**row, "from": record_of(self.value[0]), "record": record_of(self.value[1]), "swapped": swapped, **found}
 
 
 def record_key(key):
@@ -82,11 +97,13 @@ def record_key(key):
 
 
 class History:
-    """Calls that begin and end. `opening` is what each register held at first; `unsaid` are the names of calls that were left out."""
+    """Calls that begin and end. `opening` is what each register held at first; `unsaid` are the names of calls that were left out. With
+    `repeats` each log is one whose values repeat, with `failed_missed` a compare-and-set that failed found another value."""
 
     def __init__(self, opening=None):
         self.opening, self.calls, self.under_way = opening, [], {}
         self.count, self.untakeable, self.unsaid = 0, [], set()
+        self.repeats = self.failed_missed = False
 
     def leave_out(self, why):
         """An operation that can't be said is counted, and its end is too late to matter."""
@@ -102,6 +119,8 @@ class History:
             raise Refused(line, f"a time is a number from 0 on, of at most 64 bits, and not {edn.text_of(at)}")
         if name in self.under_way:
             raise Refused(line, f"{name} begins again before line {self.under_way[name].line} has ended")
+        if kind == "cas" and not is_exchange(value):
+            raise Refused(line, f"a cas has the value that it asks for and the one that it leaves, and not {edn.text_of(value)}")
         self.count += 1
         self.under_way[name] = Call(line, who, kind, key, at, value)
         self.calls.append(self.under_way[name])
@@ -119,17 +138,29 @@ class History:
         call = self.returned(line, name, kind)
         if key and record_key(key["key"]) != call.key:
             raise Refused(line, f"this {kind} ends for another key than that of line {call.line}")
-        if not is_whole(at) or at < call.begin:
-            raise Refused(line, "this operation ends before it begins, or at no time")
-        if kind == "write" and value is not None and not fits(call.value, value):
-            raise Refused(line, f"this write ends with another value than that of line {call.line}")
-        call.end, call.fate = at, "done"
+        self.set_end(line, call, at)
+        if kind != "read" and value is not None and not (fits(call.value, value) if kind == "write" else name_of(call.value) == name_of(value)):
+            raise Refused(line, f"this {kind} ends with another value than that of line {call.line}")
         if kind == "read" or value is not None:
             call.value = value
 
-    def fail(self, line, name, kind):
-        """A call took no effect, and stands in no log."""
-        self.returned(line, name, kind).fate = "failed"
+    def set_end(self, line, call, at):
+        if not is_whole(at) or at < call.begin:
+            raise Refused(line, "this operation ends before it begins, or at no time")
+        call.end, call.fate = at, "done"
+
+    def miss(self, line, name, at, found=None):
+        """A compare-and-set found another value than it asked for; if it isn't nothing, this one."""
+        call = self.returned(line, name, "cas")
+        self.set_end(line, call, at)
+        if found is not None and name_of(found) == name_of(call.value[0]):
+            raise Refused(line, f"this cas found what it asked for on line {call.line}, and did nothing")
+        call.missed, call.found = True, found
+
+    def fail(self, line, name, kind, at=None):
+        """A call took no effect, and stands in no log. At the time that is given a compare-and-set may have found another value."""
+        call = self.returned(line, name, kind)
+        call.fate, call.failed_at = "failed", at
 
     def leave(self, line, name, kind):
         """Nobody knows whether a call took effect."""
@@ -139,11 +170,12 @@ class History:
         """By key the operations by beginning: no call that failed, and no read that never returned."""
         found, self.numbers = {}, numbers_beside({call.who for call in self.calls})
         for call in sorted(self.calls, key=lambda it: it.begin):
-            if call.fate == "done" or (call.fate == "open" and call.kind == "write"):
+            if self.failed_missed and call.kind == "cas" and call.failed_at is not None:
+                call.end, call.fate, call.missed = call.failed_at, "done", True
+            if call.fate == "done" or (call.fate == "open" and call.kind != "read"):
                 found.setdefault(call.key, []).append(call)
         found = {key: self.with_known_values(calls) for key, calls in found.items()}
         for calls in found.values():
-            self.test_repeats(calls)
             self.set_apart(calls)
         if self.untakeable:
             raise self.refusal()
@@ -156,6 +188,7 @@ class History:
             return calls
         open_writes = [it for it in calls if it.is_vague()]
         written = {name_of(it.value) for it in calls if it.kind == "write" and not it.is_vague()} | {name_of(self.opening)}
+        written |= {name_of(it.value[1]) for it in calls if it.kind == "cas"}
         shown = {}
         for it in calls:
             if it.kind == "read" and name_of(it.value) not in written:
@@ -175,16 +208,10 @@ class History:
         elif fitting:
             min(fitting, key=lambda it: it.begin).value = read.value
 
-    def test_repeats(self, calls):
-        written = {}
-        for call in (it for it in calls if it.kind == "write"):
-            record = name_of(call.value)
-            if record == name_of(self.opening):
-                self.untakeable.append(Untakeable(call.line, "writes what the register held at first", "write of the opening"))
-            elif record in written:
-                why = f"writes {record} as line {written[record]} does, and nobody knows which a read gave"
-                self.untakeable.append(Untakeable(call.line, why, "write of a value that was written before"))
-            written.setdefault(record, call.line)
+    def has_repeats(self, calls):
+        """Whether a log has to be one whose values repeat: it has a compare-and-set, or writes a value twice, or what was there at first."""
+        written = [name_of(self.opening), *(name_of(it.value) for it in calls if it.kind == "write")]
+        return self.repeats or any(it.kind == "cas" for it in calls) or len(set(written)) < len(written)
 
     def set_apart(self, calls):
         """Of one process operations follow each other. One that never ended, and isn't its last, gets a number of its own."""
@@ -209,13 +236,14 @@ def numbers_beside(taken):
     return (number for number in itertools.count() if number not in taken)
 
 
-def text_of(opening, calls):
-    rows = [{"kind": "lines", "opening": record_of(opening)}, *[call.row() for call in calls], {"kind": "done", "ops": len(calls)}]
+def text_of(history, calls):
+    header = {"kind": "lines", "opening": record_of(history.opening), **({"repeats": True} if history.has_repeats(calls) else {})}
+    rows = [header, *[call.row() for call in calls], {"kind": "done", "ops": len(calls)}]
     text = "".join(json.dumps(row, separators=(",", ":"), ensure_ascii=False) + "\n" for row in rows)
     try:
         text.encode()
     except UnicodeEncodeError as why:
-        line = next((it.line for it in calls if not is_unicode(record_of(it.value))), 1)
+        line = next((it.line for it in calls if not all(is_unicode(record_of(value)) for value in (it.value, it.found))), 1)
         raise Refused(line, "a text with half a letter") from why
     return text
 
@@ -237,14 +265,14 @@ def write_logs(history, folder):
     if folder is None:
         if len(logs) > 1:
             raise Refused(1, f"there are {len(logs)} keys: --to FOLDER writes a log for each")
-        sys.stdout.write(text_of(history.opening, *logs.values()))
+        sys.stdout.write(text_of(history, *logs.values()))
         return
     names = {}
     for key, calls in logs.items():
         name = file_name(key)
         if names.setdefault(name, key) != key:
             raise Refused(calls[0].line, f"the keys {names[name]} and {key} would both be {name}")
-    texts = {file_name(key): text_of(history.opening, calls) for key, calls in logs.items()}
+    texts = {file_name(key): text_of(history, calls) for key, calls in logs.items()}
     os.makedirs(folder, exist_ok=True)
     for name, text in texts.items():
         with open(os.path.join(folder, name), "w", encoding="utf-8") as file:
@@ -279,12 +307,15 @@ def run(name, page, read):
     parser = argparse.ArgumentParser(description=page, formatter_class=argparse.RawDescriptionHelpFormatter)
     parser.add_argument("--to", metavar="FOLDER")
     parser.add_argument("--opening", metavar="VALUE", type=opening_of)
+    parser.add_argument("--repeats", action="store_true")
+    parser.add_argument("--failed-cas-missed", action="store_true")
     parser.add_argument("history", nargs="?")
     words = parser.parse_args()
     try:
         history = read(text_of_file(words.history))
         if words.opening is not None:
             history.opening = words.opening
+        history.repeats, history.failed_missed = words.repeats, words.failed_cas_missed
         sys.stdout.reconfigure(encoding="utf-8")
         write_logs(history, words.to)
         sys.stdout.flush()

@@ -1,7 +1,7 @@
 #!/usr/bin/env python3
 """Histories in the forms of Porcupine (github.com/anishathalye/porcupine) to JSON Lines for `fsr order`.
 
-    porcupine.py [--to FOLDER] [--opening VALUE] [HISTORY]
+    porcupine.py [--to FOLDER] [--opening VALUE] [--repeats] [--failed-cas-missed] [HISTORY]
 
 Three forms are known by their first line:
 
@@ -10,13 +10,19 @@ Three forms are known by their first line:
 - its operations or events as JSON, a line or an array: `{"ClientId":0,"Input":I,"Call":10,"Output":O,"Return":12}` or
   `{"ClientId":0,"Kind":"call","Value":I,"Id":0}`, the latter also with Go's numbers (0 or false is a call, 1 or true a return). An input I
   is `{"Op":"put","Key":"x","Value":"1"}` or `{"Op":"get","Key":"x"}` (`read` and `write` as well, `Key` may be missing), an output O the
-  value or `{"Value":"1"}`. Keys hold null at first, unless an object `{"Opening":V}` stands first.
+  value or `{"Value":"1"}`. That of `{"Op":"cas","Key":"x","From":"1","To":"2"}` is `true`, or `{"Ok":true}`, if it left `To`, `false` or
+  `{"Ok":false,"Value":"3"}` if it found another value, which may be missing, and else nobody knows. Keys hold null at first, unless an
+  object `{"Opening":V}` stands first.
 - the operations of etcd's robustness tests are such, with its own inputs and outputs: a `range` of one key, or a `txn` of one put without
   conditions. A record is `[revision, value]`. A put that failed is unfinished, and has the revision of the read that shows it.
 
 Each key has a log of its own, FOLDER/KEY.jsonl; without --to the only one goes to standard output. Times are `Call` and `Return`, or the
-events' places. A write without a return stands there without an end, a read without one is left out. `cas`, `append` and a value that is
-written twice can't be said: the first such line is told, and how many there are of each kind, with status 3. The opening is a word of EDN.
+events' places. A write or a `cas` without a return stands there without an end, a read without one is left out. A log with a `cas`, or with
+a value that is written twice or is the opening, has `"repeats":true`, with --repeats every log. `append` and all else can't be said: the
+first such line is told, and how many there are of each kind, with status 3. The opening is a word of EDN.
+
+In a log a `cas` that ended with `:fail` is left out, as it may never have been tried. --failed-cas-missed takes it for one that found another
+value, as Porcupine's own test of these logs does; one that timed out is unknown.
 """
 
 import json
@@ -26,7 +32,7 @@ import sys
 import edn
 import lines
 
-KINDS = {"get": "read", "read": "read", "put": "write", "write": "write"}
+KINDS = {"get": "read", "read": "read", "put": "write", "write": "write", "cas": "cas"}
 JEPSEN = re.compile(r"INFO\s+jepsen\.util\s+-\s+(\d+)\s+:(\w+)\s+:(\w+)\s+(.*)")
 CALL, RETURN = ("call", 0, False), ("return", 1, True)
 
@@ -43,7 +49,7 @@ def kind_of(name):
 
 
 def untakeable(line, name):
-    return lines.Untakeable(line, f"{name} is neither a read nor a write", str(name))
+    return lines.Untakeable(line, f"{name} is no read, write or cas", str(name))
 
 
 def add_event(history, event, kind, value, **key):
@@ -54,7 +60,7 @@ def add_event(history, event, kind, value, **key):
     elif moment == "ok":
         history.end(line, who, kind, place, value, **key)
     elif moment == "fail":
-        history.fail(line, who, kind)
+        history.fail(line, who, kind, place)
     elif moment == "info":
         history.leave(line, who, kind)
     else:
@@ -82,6 +88,19 @@ def leave_out(history, line, moment, what):
         history.leave_out(untakeable(line, what))
 
 
+def value_of(line, text):
+    """A word, or the two values of a compare-and-set."""
+    if not text.startswith("["):
+        return edn.word_of(text)
+    try:
+        values = [it for _, it in edn.values_of(f"[{text}\n]")]
+    except edn.NoEdn:
+        values = []
+    if len(values) != 1:
+        raise lines.Refused(line, "this is no event")
+    return values[0]
+
+
 def read_jepsen(rows):
     history = lines.History()
     for place, (line, row) in enumerate(rows):
@@ -91,11 +110,12 @@ def read_jepsen(rows):
                 continue
             raise lines.Refused(line, "this is no event")
         who, moment, name, value = found.groups()
-        # a read that timed out took no effect; nobody knows whether such a write did
-        if value.strip() == ":timed-out" and name == "write":
+        value = value.strip()
+        # a read that timed out took no effect; nobody knows whether another one did
+        if value == ":timed-out" and name != "read":
             moment = "info"
         try:
-            add_event(history, (line, place, int(who), moment), kind_of(name), edn.word_of(value.strip()))
+            add_event(history, (line, place, int(who), moment), kind_of(name), value_of(line, value))
         except Untaken as what:
             leave_out(history, line, moment, what)
         except ValueError:
@@ -112,11 +132,28 @@ def input_of(line, it):
     if not isinstance(it, dict):
         raise lines.Refused(line, "an input is an object with an Op")
     it = names_in_lower(it)
-    return kind_of(it.get("op")), it.get("key"), it.get("value")
+    kind = kind_of(it.get("op"))
+    if kind == "cas" and not {"from", "to"} <= it.keys():
+        raise lines.Refused(line, "a cas has a From and a To")
+    return kind, it.get("key"), it.get("value") if kind != "cas" else [it["from"], it["to"]]
 
 
 def output_of(it):
     return names_in_lower(it).get("value") if isinstance(it, dict) else it
+
+
+def end_operation(history, line, name, kind, at, it):
+    """An operation ended with this output."""
+    if kind != "cas":
+        history.end(line, name, kind, at, output_of(it) if kind == "read" else None)
+        return
+    swapped = names_in_lower(it).get("ok") if isinstance(it, dict) else it
+    if swapped is True:
+        history.end(line, name, kind, at, None)
+    elif swapped is False:
+        history.miss(line, name, at, names_in_lower(it).get("value"))
+    else:
+        history.leave(line, name, kind)
 
 
 def etcd_value(it):
@@ -208,11 +245,13 @@ def add_operation(history, line, place, row):
     is_etcd = isinstance(asked, dict) and "Type" in asked
     kind, key, value = etcd_input(asked) if is_etcd else input_of(line, asked)
     history.begin(line, row.get("ClientId"), kind, key, row["Call"], value, place)
-    known = etcd_output(kind, gave, value) if is_etcd else [output_of(gave) if kind == "read" else None]
+    known = etcd_output(kind, gave, value) if is_etcd else [gave]
     if row.get("Return") is None or known is None:
         history.leave(line, place, kind)
-    else:
+    elif is_etcd:
         history.end(line, place, kind, row["Return"], known[0])
+    else:
+        end_operation(history, line, place, kind, row["Return"], gave)
 
 
 def add_json_event(history, line, place, row):
@@ -229,8 +268,7 @@ def add_json_event(history, line, place, row):
     elif row["Kind"] not in RETURN:
         raise lines.Refused(line, f"{edn.text_of(row['Kind'])} is neither a call nor a return")
     elif name in history.under_way:
-        kind = history.under_way[name].kind
-        history.end(line, name, kind, place, output_of(row.get("Value")) if kind == "read" else None)
+        end_operation(history, line, name, history.under_way[name].kind, place, row.get("Value"))
     elif name not in history.unsaid:
         raise lines.Refused(line, f"{edn.text_of(name)} ends what it hadn't begun")
 
