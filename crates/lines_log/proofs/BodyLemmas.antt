@@ -11,13 +11,13 @@ use Rattle.read_document.specs.Refusals.{◌>>=◌}
 use Rattle.program_runs.specs.declared.fault.Fault.{Fault}
 use Rattle.read_document.specs.Splits.{in_front, IsSplit, lines_of}
 use Rattle.read_line.specs.Lines.{done, LineEntry, entry_of, Head, head_of, operation}
-use Rattle.lines_log.specs.Faults.{IsBodyFault, is_last, IsLineFault}
+use Rattle.lines_log.specs.Faults.{IsBodyFault, is_end, is_last, IsLineFault}
 use Rattle.lines_log.specs.Logs.{AreAll, AreLines, first_key, IsLinesLog, is_refused, judged, judged_line, LineRule, rule_in, same_key}
 use Rattle.lines_log.specs.Logs.{text_of}
 use Rattle.std.specs.Prelude.{MatchOption, is_some, unwrap_or}
 use Rattle.history_thinning.specs.Thinnings.{IsThinnedLog}
 use Rattle.lines_log.specs.declared.lines_log.LinesLog.{LinesLog}
-use Rattle.lines_log.specs.inner.Readings.{IsFinished, AreRead, HasRest, IsReadWhole, IsPartlyRead, is_end, ReadsLine, rule_of}
+use Rattle.lines_log.specs.inner.Readings.{IsFinished, AreRead, HasRest, IsReadWhole, IsPartlyRead, ReadsLine, rule_of}
 use Rattle.lines_log.specs.declared.reader.Reader.{Reader}
 use Rattle.lines_log.proofs.ReadLemmas.{distinct}
 
@@ -41,7 +41,7 @@ ends_last : (rule : LineRule) (last : Bool) (count : ℕ) (line : List ℕ) → 
 ends_last rule true count line is = refl
 ends_last rule false count line is = absurd (never rule count (entry_of line) is)
 
-end_is : (rest : List ℕ) → is_end rest ≡ true → rest ≡ []
+pub end_is : (rest : List ℕ) → is_end rest ≡ true → rest ≡ []
 end_is [] e = refl
 end_is (x ∷ xs) e = cc
 
@@ -62,7 +62,7 @@ pub begun : (opening : List ℕ) (body : List ℕ) (reader : Reader) → AreRead
     → IsPartlyRead opening (rule_of reader) false (lines_of body) body reader
 begun opening body reader read = record { lines = []; read = read; limits = refl; left = refl }
 
-none_left : (rest line behind : List ℕ) → IsSplit rest line behind → rest ≡ [] → ⊥
+pub none_left : (rest line behind : List ℕ) → IsSplit rest line behind → rest ≡ [] → ⊥
 none_left rest line behind split none =
     let empty : length rest ≡ 0 = ap length none in omega (arith, empty, split.shorter)
 

@@ -8,7 +8,7 @@ use Rattle.read_line.specs.Lines.{Head, head_of}
 use Rattle.lines_log.specs.Faults.{IsBodyFault, IsLinesFault, refused_at}
 use Rattle.lines_log.specs.Logs.{LineRule, rule_in, text_of}
 
-is_memory : (why : DocError) → (why ≡ NoMemory) ⊎ (why ≢ NoMemory)
+pub is_memory : (why : DocError) → (why ≡ NoMemory) ⊎ (why ≢ NoMemory)
 is_memory Long = inr (λ e. cc)
 is_memory NotJson = inr (λ e. cc)
 is_memory Kind = inr (λ e. cc)

@@ -77,6 +77,11 @@ abbrev pub is_last : List (List ℕ) → Bool
 is_last [] = true
 is_last (line ∷ lines) = false
 
+-- whether nothing of a text is left
+abbrev pub is_end : List ℕ → Bool
+is_end [] = true
+is_end (byte ∷ bytes) = false
+
 -- the first line at fault among these behind the header
 pub record IsBodyFault (opening : List ℕ) (rule : LineRule) (body : List (List ℕ)) (f : Fault) : Type 0 where
   pub lines : List (List ℕ)

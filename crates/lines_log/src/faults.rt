@@ -10,7 +10,7 @@ use read_line::line_of;
 use std::alloc::AllocError;
 
 /// How a refusal of this line is told.
-pub(crate) fn refused_at(line: usize, why: DocError) -> Fault
+pub fn refused_at(line: usize, why: DocError) -> Fault
     ensures { result ≡ refused_at line why }
 {
     match why {

@@ -10,5 +10,8 @@ mod number;
 mod reader;
 mod thin;
 
+pub use faults::refused_at;
+pub use line::same_key;
 pub use lines_log::LinesLog;
-pub use log::read_lines;
+pub use log::{is_end, read_lines, text_of};
+pub use number::fitted;

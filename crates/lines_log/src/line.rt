@@ -44,7 +44,8 @@ fn judged_op(limited: bool, key: &Option<String>, op: LineOp) -> Result<Option<L
     }
 }
 
-fn same_key(key: &Option<String>, other: &Option<String>) -> bool
+/// Whether the keys of two operations are the same.
+pub fn same_key(key: &Option<String>, other: &Option<String>) -> bool
     ensures { result ≡ same_key (option_map string_bytes key.now) (option_map string_bytes other.now) }
 {
     match (key, other) {

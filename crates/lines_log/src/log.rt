@@ -1,9 +1,9 @@
 //! From bytes to the log that they stand for.
 ghost use Rattle.std.specs.Prelude.{◌≡◌, ◌<◌, ◌+◌, ◌^◌, ℕ, List, [], length, option_map, string_bytes, IfErr, IfOk, OnOk};
 ghost use Rattle.history_core.specs.declared.history.Op.{Op};
-ghost use Rattle.lines_log.specs.Faults.{IsBodyFault, IsLinesFault};
+ghost use Rattle.lines_log.specs.Faults.{IsBodyFault, is_end, IsLinesFault};
 ghost use Rattle.lines_log.specs.Logs.{first_key, IsLinesLog, text_of};
-ghost use Rattle.lines_log.specs.inner.Readings.{is_end, IsFinished, AreRead, IsReadWhole, rule_of};
+ghost use Rattle.lines_log.specs.inner.Readings.{IsFinished, AreRead, IsReadWhole, rule_of};
 ghost use Rattle.read_line.specs.Numberings.{IsNumbering};
 ghost use Rattle.read_document.specs.Splits.{lines_of};
 
@@ -52,7 +52,7 @@ pub fn read_lines(alloc: Global, bytes: &[u8]) -> Result<LinesLog, Fault>
 }
 
 /// The text of a log, without the white space behind its last line, if that isn't too much.
-fn text_of(bytes: &[u8]) -> &[u8]
+pub fn text_of(bytes: &[u8]) -> &[u8]
     ensures { result.now ≡ text_of bytes.now }
 {
     if ends_in_space(bytes) {
@@ -107,7 +107,8 @@ fn read_body(alloc: Global, reader: &mut Reader, body: &[u8]) -> Result<bool, Fa
     Ok(ended)
 }
 
-fn is_end(rest: &[u8]) -> bool
+/// Whether nothing is left.
+pub fn is_end(rest: &[u8]) -> bool
     ensures { result ≡ is_end rest.now }
 {
     rest.is_empty()

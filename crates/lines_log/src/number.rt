@@ -48,7 +48,7 @@ fn number_record(
 }
 
 /// The same text without room for more.
-fn fitted(text: String) -> String
+pub fn fitted(text: String) -> String
     ensures { string_bytes result ≡ string_bytes text }
 {
     let mut fitted = text;

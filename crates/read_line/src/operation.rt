@@ -39,8 +39,9 @@ fn line_in(alloc: Global, value: &Value) -> Result<LogLine, DocError>
     }
 }
 
+/// The number of operations that the end of a log says.
 #[tactic(auto, unfolding(crate::specs::Lines::done_in))]
-fn done_in(value: &Value) -> Result<usize, DocError>
+pub fn done_in(value: &Value) -> Result<usize, DocError>
     ensures { Gives (λ n. n) result (done_in (view value.now)) }
 {
     required(value, &[Key::Ops])?;
@@ -75,7 +76,7 @@ fn operation_in(alloc: Global, value: &Value) -> Result<LineOp, DocError>
 }
 
 /// The text of the record, which may be null.
-fn record_in(alloc: Global, value: &Value) -> Result<Option<String>, DocError>
+pub fn record_in(alloc: Global, value: &Value) -> Result<Option<String>, DocError>
     ensures { Gives (option_map string_bytes) result (record_in (view value.now)) }
 {
     match value.get("record") {
@@ -88,7 +89,7 @@ fn record_in(alloc: Global, value: &Value) -> Result<Option<String>, DocError>
 }
 
 /// The text of the key, which may be missing or null.
-fn key_in(alloc: Global, value: &Value) -> Result<Option<String>, DocError>
+pub fn key_in(alloc: Global, value: &Value) -> Result<Option<String>, DocError>
     ensures { Gives (option_map string_bytes) result (key_in (view value.now)) }
 {
     match value.get("key") {
@@ -110,7 +111,8 @@ fn allowed(kind: Kind, begin: u64, end: Option<u64>, there: bool) -> Result<(), 
     must(may_have(kind, end, there), DocError::Law(Key::Record))
 }
 
-fn ends_later(begin: u64, end: Option<u64>) -> bool
+/// Whether an operation doesn't end before it begins.
+pub fn ends_later(begin: u64, end: Option<u64>) -> bool
     ensures { result ≡ ends_later begin end }
 {
     match end {

@@ -15,7 +15,7 @@ use std::alloc::{AllocError, Global};
 const MAX_NUMBERS: usize = 64;
 
 /// The text of the record that a value is, if it is one.
-pub(crate) fn record_text(alloc: Global, value: &Value) -> Result<Option<String>, AllocError>
+pub fn record_text(alloc: Global, value: &Value) -> Result<Option<String>, AllocError>
     ensures { IfOk result (λ found. option_map string_bytes found ≡ record_text (view value.now)) }
 {
     if value.as_str().is_some() {

@@ -66,11 +66,6 @@ pub record IsReadWhole (opening : List ℕ) (body : List (List ℕ)) (reader : R
   pub read : AreRead opening lines reader
   pub all : AreAll (rule_of reader) ended body lines
 
--- whether nothing is left
-abbrev pub is_end : List ℕ → Bool
-is_end [] = true
-is_end (byte ∷ bytes) = false
-
 -- what was read, as it is given
 pub record IsFinished (limit : ℕ) (has_end : Bool) (reader : Reader) (log : LinesLog) : Type 0 where
   pub thinned : (ops : List (Op ℕ)) → IsThinning ops reader.thinner → IsThinnedLog limit ops log.thinned

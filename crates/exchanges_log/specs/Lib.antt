@@ -1,0 +1,3 @@
+pub mod ExchangeFaults
+pub mod ExchangeLogs
+pub mod inner

@@ -1,0 +1,2 @@
+pub mod ExchangeNumbers
+pub mod ExchangeReadings

@@ -1,0 +1,13 @@
+//! The reader of a log whose records repeat: from bytes to its operations, whose records are numbers, or the first line
+//! at fault.
+#![tactic(auto)]
+
+mod counts;
+mod exchanges_log;
+mod line;
+mod log;
+mod number;
+mod reader;
+
+pub use exchanges_log::ExchangesLog;
+pub use log::{has_repeats, read_exchanges};

@@ -1,0 +1,13 @@
+//! The lines of a log whose records repeat: its header, its operations, among them compare-and-sets, and the line that
+//! may end it.
+#![tactic(auto)]
+
+mod compare;
+mod form;
+mod header;
+mod line;
+mod operation;
+
+pub use header::{has_repeats, read_exchange_header};
+pub use line::{ExchangeLine, ExchangeOp, TextExchange};
+pub use operation::read_exchange;

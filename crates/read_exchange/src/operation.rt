@@ -1,0 +1,77 @@
+//! The lines behind the header.
+ghost use Rattle.std.specs.Prelude.{◌≡◌, option_map, string_bytes};
+ghost use Rattle.serde_json.specs.View.{view};
+ghost use Rattle.read_document.specs.Refusals.{Gives};
+ghost use Rattle.read_exchange.specs.Exchanges.{entry_in, entry_of, entry_with, line_seen, operation_in};
+ghost use Rattle.read_exchange.specs.inner.Seen.{effect_seen};
+
+use crate::compare::{Effect, asked_in, effect_of};
+use crate::form::form_in;
+use crate::line::{ExchangeLine, ExchangeOp};
+use read_document::{
+    DocError, Key, is_kind, must, number_field, optional_number, read_value, required, shaped,
+};
+use read_line::{done_in, ends_later, key_in, record_in};
+use serde_json::Value;
+use std::alloc::Global;
+
+/// What a line behind the header says, or its first refusal with its first key.
+#[tactic(auto, unfolding(crate::specs::Exchanges::entry_of))]
+pub fn read_exchange(alloc: Global, bytes: &[u8]) -> Result<ExchangeLine, DocError>
+    ensures { Gives line_seen result (entry_of bytes.now) }
+{
+    let value = read_value(alloc, bytes)?;
+    line_in(alloc, &value)
+}
+
+#[tactic(auto, unfolding(crate::specs::Exchanges::entry_in))]
+fn line_in(alloc: Global, value: &Value) -> Result<ExchangeLine, DocError>
+    ensures { Gives line_seen result (entry_in (view value.now)) }
+{
+    if is_kind(value, "done") {
+        let ops = done_in(value)?;
+        Ok(ExchangeLine::Done(ops))
+    } else {
+        operation_in(alloc, value)
+    }
+}
+
+#[tactic(auto, unfolding(crate::specs::Exchanges::operation_in))]
+fn operation_in(alloc: Global, value: &Value) -> Result<ExchangeLine, DocError>
+    ensures { Gives line_seen result (operation_in (view value.now)) }
+{
+    required(
+        value,
+        &[Key::Who, Key::Kind, Key::Begin, Key::End, Key::Record],
+    )?;
+    number_field(value, Key::Who)?;
+    let form = shaped(Key::Kind, form_in(value))?;
+    let begin = number_field(value, Key::Begin)?;
+    let end = shaped(Key::End, optional_number(value.get("end")))?;
+    let record = record_in(alloc, value)?;
+    let key = key_in(alloc, value)?;
+    let asked = asked_in(alloc, form, value)?;
+    must(ends_later(begin, end), DocError::Law(Key::End))?;
+    let effect = effect_of(asked, end, record)?;
+    Ok(line_with(key, begin, end, effect))
+}
+
+fn line_with(
+    key: Option<String>,
+    begin: u64,
+    end: Option<u64>,
+    effect: Option<Effect>,
+) -> ExchangeLine
+    ensures { line_seen result ≡ entry_with (option_map string_bytes key) begin end (option_map effect_seen effect) }
+{
+    match effect {
+        Some(Effect { maybe, what }) => ExchangeLine::Operation(ExchangeOp {
+            begin,
+            end,
+            maybe,
+            what,
+            key,
+        }),
+        None => ExchangeLine::Refused(key),
+    }
+}
