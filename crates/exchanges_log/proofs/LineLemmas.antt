@@ -105,7 +105,7 @@ entered opening lines line last old new said next read judged key numbered pushe
     subst (λ (k : Option (List ℕ)). AreExchangeLines k (lines ++ line ∷ []) now.after (old.ops.items ++ next ∷ [])) (sym key) are in
     record {
       records = now.after;
-      are = subst (λ (ops : List (Operation Exchange)). AreExchangeLines (key_of new) (lines ++ line ∷ []) now.after ops) (sym pushed) at_key;
+      are = subst (λ (l : List (Operation Exchange)). AreExchangeLines (key_of new) (lines ++ line ∷ []) now.after l) (sym pushed) at_key;
       numbering = now.numbers;
       opened = now.grow.grows 0 opening read.opened;
     }

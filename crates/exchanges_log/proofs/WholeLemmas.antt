@@ -1,5 +1,5 @@
 -- Line by line: what is left of the body becomes shorter, and what was read longer.
-use Rattle.std.proofs.Common.{◌≡◌, ◌≢◌, ℕ, List, [], ◌∷◌, ◌++◌, length, refl, ap, sym, ◌∙◌, arith, subst, slice_get, Some, None, Option, Ok, Err}
+use Rattle.std.proofs.Common.{◌≡◌, ◌≢◌, ℕ, List, [], ◌∷◌, ◌++◌, length, refl, ap, sym, ◌∙◌, subst, Some, None, Option, Ok, Err}
 use Rattle.std.proofs.Common.{Bool, true, false, ◌⊎◌, inl, inr, append_assoc, Result}
 use Rattle.std.specs.Prelude.{◌==◌, if◌then◌else◌}
 use Rattle.std.proofs.lemmas.List.{append-nil}
@@ -19,8 +19,8 @@ use Rattle.lines_log.proofs.ReadLemmas.{distinct}
 use Rattle.read_exchange.specs.Exchanges.{done, entry_of, ExchangeEntry, operation, refused, SaidExchange}
 use Rattle.read_exchange.specs.Headers.{exchange_head_of}
 use Rattle.exchanges_log.specs.ExchangeFaults.{IsExchangeFault, IsExchangesBodyFault, IsExchangesFault}
-use Rattle.exchanges_log.specs.ExchangeLogs.{AreAllExchanges, AreExchangeLines, first_key, IsExchangesLog, judged, judged_line, uncertain_in}
-use Rattle.exchanges_log.specs.ExchangeLogs.{unfinished_in}
+use Rattle.exchanges_log.specs.ExchangeLogs.{AreAllExchanges, AreExchangeLines, first_key, IsExchangesLog, judged, judged_line}
+use Rattle.exchanges_log.specs.ExchangeLogs.{uncertain_in, unfinished_in}
 use Rattle.exchanges_log.specs.inner.ExchangeReadings.{AreExchangesFinished, AreExchangesRead, HasRestOf, IsBodyRead, IsBodyReadSoFar}
 use Rattle.exchanges_log.specs.inner.ExchangeReadings.{key_of, ReadsExchange}
 use Rattle.exchanges_log.specs.declared.exchanges_log.ExchangesLog.{ExchangesLog}
@@ -35,7 +35,10 @@ never which count (Err why) h = cc
 never which count (Ok (done ops)) h = cc
 never which count (Ok (refused other)) h = by_test (same_key which other) h
   where
-    by_test : (same : Bool) → (if same then Err (Missing key.Limit) else Err (Law key.Key)) ≡ Ok (None {A = Operation SaidExchange}) → ⊥
+    refusal : Bool → Result (Option (Operation SaidExchange)) DocError
+    refusal same = if same then Err (Missing key.Limit) else Err (Law key.Key)
+
+    by_test : (same : Bool) → refusal same ≡ Ok None → ⊥
     by_test true e = cc
     by_test false e = cc
 never which count (Ok (operation o)) h = by_test (same_key which o.key) h
