@@ -43,9 +43,11 @@ def has_repeats(data):
 
 def opening_of(header):
     must("opening" in header, 1, "missing opening")
-    opening = record_of(header["opening"])
+    opening, limit = record_of(header["opening"]), header.get("limit")
     must(opening is not None, 1, "shape of opening")
-    must(header.get("limit") is None, 1, "law of limit")
+    must(limit is None or is_whole(limit), 1, "shape of limit")
+    must(limit is None or 1 <= limit <= documents.MAX_LIMIT, 1, "range of limit")
+    must(limit is None, 1, "law of limit")
     return opening
 
 
@@ -110,7 +112,7 @@ def is_end(number, found, count, last):
 
 
 def read(data):
-    texts = lines_of(data)
+    texts, whole = lines_of(data), data.split(b"\n")
     opening, lines = opening_of(documents.read_json(texts[0])), []
     for number, text in enumerate(texts[1:], 2):
         found = value_of(text, number)
@@ -122,7 +124,7 @@ def read(data):
         key = record_of(found.get("key"))
         must(not lines or key == lines[0].key, number, "law of key")
         must(found["kind"] != "refused", number, "missing limit")
-        lines.append(Line(text.decode(), key, *meaning(opening, found)))
+        lines.append(Line(whole[number - 1].decode(), key, *meaning(opening, found)))
     return Log(opening, lines, False)
 
 
