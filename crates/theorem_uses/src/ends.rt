@@ -1,5 +1,5 @@
 //! A board whose tasks end: what their answers are worth.
-ghost use Rattle.std.specs.Prelude.{◌≡◌, IfOk, IfSome, IsTrue};
+ghost use Rattle.std.specs.Prelude.{◌≡◌, [], IfOk, IfSome, IsTrue};
 ghost use Rattle.board_live.specs.Records.{Rises};
 ghost use Rattle.theorem_uses.specs.Ends.{IsFresh};
 

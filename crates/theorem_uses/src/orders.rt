@@ -1,4 +1,5 @@
 //! What an atomic order says of the operations that it lists.
+ghost use Rattle.std.specs.Prelude.{ℕ};
 ghost use Rattle.theorem_uses.specs.Orders.{HasWhatIsThere, KeepsIntervals, ListsEachOnce};
 ghost use Rattle.theorem_uses.specs.Orders.{ListsNothingElse, StaleIsAbsurd};
 ghost use Rattle.theorem_uses.specs.Orders.{WaitsForTheLimit};
