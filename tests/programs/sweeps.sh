@@ -39,7 +39,8 @@ compare_sweeps() {
 
 test_sweeps() {
     catches "a lawful log that is told as another" "but it is lawful" sweeps_wrongly '40,\$s/^lawful/unlawful/' 100 lawful
-    catches "an unlawful log that is told as lawful" "but it is unlawful" sweeps_wrongly '40,\$s/^unlawful/lawful/' 100 lawful
+    catches "an unlawful log that is told as lawful" "but it is unlawful" sweeps_wrongly '40,\$s/^unlawful.*/lawful/' 100 lawful
+    catches "a log that is lost elsewhere" "but it is unlawful" sweeps_wrongly '40,\$s/^unlawful.*/unlawful 9/' 100 lawful
     catches "too many where there aren't" "configurations are reached there" sweeps_wrongly 's/.*/too many 0/' 100 --budgets lawful
     catches "an answer less" "100 logs have 99 answers" sweeps_wrongly '40d' 100 lawful
     catches "no log" "0 logs of seed 1" sweeps_wrongly '' 0 lawful

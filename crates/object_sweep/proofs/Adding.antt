@@ -5,6 +5,7 @@ use Rattle.std.proofs.lemmas.Bool.{cases_Bool, cases_lt}
 use Rattle.std.proofs.lemmas.Option.{same_Some, slice_get_within, slice_get-get_or}
 use Rattle.object_core.specs.declared.operation.Operation.{Operation}
 use Rattle.object_sweep.specs.declared.configuration.Configuration.{Configuration}
+use Rattle.object_sweep.specs.inner.Cuts.{EndsAt, IsCut}
 use Rattle.object_sweep.specs.inner.Steps.{AnyCanFinish, AreExplored, AreSound, AreStarted, AreUnderWay, IsAdded, IsClosed}
 use Rattle.object_sweep.specs.inner.Steps.{IsCopyAt, IsExplored, IsGrown, IsHandled, IsIdle, IsLeftOut, IsMadeOf, IsPassed, IsPureNext}
 use Rattle.object_sweep.specs.inner.Steps.{IsPut, IsPutIn, IsSorted, IsSureAndPure, IsTried, IsVisited, made_by}
@@ -19,6 +20,8 @@ use Rattle.object_sweep.proofs.Lists.{at_is_in, closed_behind, get_front, get_la
 use Rattle.object_sweep.proofs.Lists.{without_push}
 use Rattle.object_sweep.proofs.Lists.{within_itself}
 use Rattle.object_sweep.proofs.Placed.{same_number}
+use Rattle.object_sweep.proofs.Cuts.{cut_forwards, cut_handled, cut_next, cut_way}
+use Rattle.object_sweep.proofs.Lacking.{lacking_of}
 use Rattle.object_sweep.proofs.Exact.{finished, held_finish, same_finish, same_rests}
 
 module _ {S : Type 0} where
@@ -278,17 +281,18 @@ module _ {S W : Type 0} (after : S → W → Option S) (log : List (Operation W)
       inr (p.0, p.1, put_in_grown (nat_eq p.0 ending) p.0 t placed waiting kept waiting' kept' w k p.2)
 
   -- what is placed for another one leads to the same state
-  made_for : (s t : S) (m n : Option (Operation W)) → MayStandFor after m n → made_by after s n ≡ Some t → made_by after s m ≡ Some t
-  made_for s t (Some a) (Some b) h e = h.same s ∙ e
-  made_for s t (Some a) None h e = absurd h
-  made_for s t None n h e = absurd h
+  made_for : (s t : S) (p q : ℕ) (m n : Option (Operation W)) → MayStandFor after p q m n → made_by after s n ≡ Some t →
+      made_by after s m ≡ Some t
+  made_for s t p q (Some a) (Some b) h e = h.0.same s ∙ e
+  made_for s t p q (Some a) None h e = absurd h
+  made_for s t p q None n h e = absurd h
 
   stepped_for : (under_way : List ℕ) (s : S) (placed : List ℕ) (r q : ℕ) (t : S) → StandsInFor after log under_way placed r q →
       step_from after log s placed q ≡ Some t → step_from after log s placed r ≡ Some t
   stepped_for under_way s placed r q t (inl same) e = ap (step_from after log s placed) same ∙ e
   stepped_for under_way s placed r q t (inr for) e =
       let p = step_parts after s log s placed q t e in
-      ap (λ b. cond b None (made_by after s (slice_get log r))) for.1 ∙ made_for s t (slice_get log r) (slice_get log q) for.2 p.1
+      ap (λ b. cond b None (made_by after s (slice_get log r))) for.1 ∙ made_for s t r q (slice_get log r) (slice_get log q) for.2 p.1
 
   place_for : (under_way placed : List ℕ) (n r q : ℕ) → slice_get under_way n ≡ Some q → StandsInFor after log under_way placed r q →
       (m : ℕ) × (slice_get under_way m ≡ Some r)
@@ -358,8 +362,8 @@ module _ {S W : Type 0} (after : S → W → Option S) (log : List (Operation W)
     left_out = λ e. held_grown kept kept' s placed k (h.left_out e);
     tried = λ j q t at e. either_grown under_way ending q t placed waiting kept waiting' kept' w k (h.tried j q t at e);
   })
-  handled_grown under_way ending s placed waiting kept waiting' kept' w k (PlacesPure q o t at sure there free step put) =
-      PlacesPure q o t at sure there free step (put_in_grown (nat_eq q ending) q t placed waiting kept waiting' kept' w k put)
+  handled_grown under_way ending s placed waiting kept waiting' kept' w k (PlacesPure q o t at pure there free step put) =
+      PlacesPure q o t at pure there free step (put_in_grown (nat_eq q ending) q t placed waiting kept waiting' kept' w k put)
 
   -- one configuration is explored: all is tried, or a pure operation is placed
   pub visited_all : (under_way : List ℕ) (ending : ℕ) (s : S) (placed : List ℕ) (waiting kept waiting' kept' : List (Configuration S)) →
@@ -382,7 +386,7 @@ module _ {S W : Type 0} (after : S → W → Option S) (log : List (Operation W)
   visited_pure under_way ending s placed q next waiting kept waiting' kept' h = record {
     grown_waiting = f.0;
     grown_kept = f.1;
-    handled = PlacesPure q m.0 next.1 m.1 sure (is_in_at under_way next.0 q next.2) p.0 m.2 (f.2 next.1 next.4);
+    handled = PlacesPure q m.0 next.1 m.1 sure.1 (is_in_at under_way next.0 q next.2) p.0 m.2 (f.2 next.1 next.4);
     sound = λ opening ended end next_end way r lack. tried_sound after opening log ended under_way ending end next_end way s placed
         next.0 q next.2 r lack waiting kept waiting' kept' (step_from after log s placed q) refl h;
   }
@@ -528,27 +532,30 @@ module _ {S W : Type 0} (after : S → W → Option S) (log : List (Operation W)
     where
       complete : (opening : S) (ended : List ℕ) (end : ℕ) → RunForwards log → IsNextEnd log ended ending end →
           AreUnderWay log under_way ended end → AreReachable after opening log ended configurations →
-          AnyCanFinish after log ended configurations → AnyCanFinish after log (ending ∷ ended) kept
-      complete opening ended end forwards next way reached any = by_in (cases_Bool (is_in ending any.1.placed.items))
+          (cut : List (Operation W)) → IsCut log cut → EndsAt cut ending end →
+          AnyCanFinish after cut ended configurations → AnyCanFinish after cut (ending ∷ ended) kept
+      complete opening ended end forwards next way reached cut is ends any = by_in (cases_Bool (is_in ending any.1.placed.items))
         where
           start : (is_in ending any.1.placed.items ≡ true → IsHeld first' any.1.state (without ending any.1.placed.items)) ×
               (is_in ending any.1.placed.items ≡ false → IsHeld first any.1.state any.1.placed.items)
           start = started.held any.0 any.1 (slice_get_within configurations any.0 any.1 any.2) any.2
 
           by_in : (is_in ending any.1.placed.items ≡ true) ⊎ (is_in ending any.1.placed.items ≡ false) →
-              AnyCanFinish after log (ending ∷ ended) kept
+              AnyCanFinish after cut (ending ∷ ended) kept
           by_in (inl e) =
-              held_finish after log (ending ∷ ended) kept any.1.state (without ending any.1.placed.items)
+              held_finish after cut (ending ∷ ended) kept any.1.state (without ending any.1.placed.items)
               (held_grown first' kept any.1.state (without ending any.1.placed.items) explored.grown_kept (start.0 e))
-              (same_finish after log (is_closed ended any.1.placed.items) (is_closed (ending ∷ ended) (without ending any.1.placed.items))
+              (same_finish after cut (is_closed ended any.1.placed.items) (is_closed (ending ∷ ended) (without ending any.1.placed.items))
               (λ z. sym (closed_behind ended any.1.placed.items ending z e)) any.1.state any.3)
           by_in (inr e) =
               let snd = explored.sound opening ended end next way (started.sound opening ended end next reached) in
               let w = held_grown first waiting any.1.state any.1.placed.items explored.grown_waiting (start.1 e) in
-              let r = same_rests after log ended w.1 any.1.state any.1.placed.items w.3 any.3.0 any.3.1 in
-              finished after log forwards ended ending end next under_way way waiting kept snd.lacking
-              (λ i one at. explored.handled i one (slice_get_within waiting i one at) at) (length any.3.0) w.0 w.1 w.2 any.3.0 r (omega
-              arith)
+              let r = same_rests after cut ended w.1 any.1.state any.1.placed.items w.3 any.3.0 any.3.1 in
+              finished after cut (cut_forwards log cut is forwards) ended ending end (cut_next log cut is ended ending end next ends)
+              under_way (cut_way log cut is under_way ended end way) waiting kept snd.lacking
+              (λ i one at. cut_handled log cut is after under_way ending one.state one.placed.items waiting kept
+              (explored.handled i one (slice_get_within waiting i one at) at)) (length any.3.0 + lacking_of under_way w.1.placed.items)
+              w.0 w.1 w.2 any.3.0 r (omega arith)
 
   pub too_many : (under_way : List ℕ) (ending budget n : ℕ) (configurations first first' waiting kept : List (Configuration S)) →
       AreStarted after log ending (length configurations) configurations first first' →

@@ -41,14 +41,30 @@ then_number x y rest h = (
   λ e. sym (ap (λ o. is_lt (ordering_then o rest)) (cmp_same y x (sym e))) ∙ h,
 )
 
+last_number : (x y : ℕ) → is_lt (nat_cmp y x) ≡ false → x ≤ y
+last_number x y h = elim (cases_lt y x) [
+  | inl l ↦ let z : is_lt (nat_cmp y x) ≡ true = ap is_lt (cmp_less y x l) in cc
+  | inr le ↦ le
+]
+
 then_test : (x y : Bool) (rest : Ordering) → is_lt (ordering_then (bool_cmp y x) rest) ≡ false → x ≡ true → y ≡ true
 then_test false y rest h e = cc
 then_test true false rest h e = cc
 then_test true true rest h e = refl
 
+then_same : (x y : Bool) (rest : Ordering) → is_lt (ordering_then (bool_cmp y x) rest) ≡ false → x ≡ y → is_lt rest ≡ false
+then_same false false rest h e = h
+then_same true true rest h e = h
+then_same false true rest h e = cc
+then_same true false rest h e = cc
+
 no_later : (x y : Event) → is_lt (event_cmp y x) ≡ false → ComesNoLater x y
 no_later x y h =
-    let a = then_number x.at y.at _ h in record { at = a.0; ends = λ e. then_test x.ends y.ends _ (a.1 e) }
+    let a = then_number x.at y.at _ h in record {
+      at = a.0;
+      ends = λ e. then_test x.ends y.ends _ (a.1 e);
+      place = λ e f. last_number x.place y.place (then_same x.ends y.ends _ (a.1 e) f);
+    }
 
 sorted_in_order : (events : List Event) → IsSorted event_cmp events → (i j : ℕ) (x y : Event) → slice_get events i ≡ Some x →
     slice_get events j ≡ Some y → i < j → ComesNoLater x y

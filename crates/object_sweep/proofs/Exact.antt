@@ -1,5 +1,5 @@
 -- One end, exact both ways: what is reached leads back to the opening, and what can be finished is kept.
-use Rattle.std.proofs.Common.{◌≡◌, ◌≢◌, ℕ, ◌<◌, ◌≤◌, Bool, true, false, ◌||◌, nat_eq, List, [], ◌∷◌, ◌++◌, length, map, slice_get}
+use Rattle.std.proofs.Common.{◌≡◌, ◌≢◌, ℕ, ◌+◌, ◌<◌, ◌≤◌, Bool, true, false, ◌||◌, nat_eq, List, [], ◌∷◌, ◌++◌, length, map, slice_get}
 use Rattle.std.proofs.Common.{Option, None, Some, zero, suc, refl, sym, ◌∙◌, ap, subst, arith, ◌⊎◌, inl, inr}
 use Rattle.std.proofs.lemmas.Bool.{cases_Bool, cases_eq, cases_lt, or_parts}
 use Rattle.std.proofs.lemmas.Option.{same_Some}
@@ -7,16 +7,17 @@ use Rattle.history_core.specs.Orders.{times_of}
 use Rattle.object_core.specs.declared.operation.Operation.{Operation}
 use Rattle.object_core.specs.Logs.{is_due}
 use Rattle.object_sweep.specs.declared.configuration.Configuration.{Configuration}
-use Rattle.object_sweep.specs.inner.Steps.{AnyCanFinish, AreTried, AreUnderWay, IsHandled, IsIdle, IsPutIn, IsSureAndPure, may_be_left_out}
+use Rattle.object_sweep.specs.inner.Steps.{AnyCanFinish, AreTried, AreUnderWay, IsHandled, IsIdle, IsPure, IsPutIn, may_be_left_out}
 use Rattle.object_sweep.specs.inner.Steps.{IsPlacedFor, maybe_of, MayStandFor, step_from}
 use Rattle.object_sweep.specs.inner.Steps.IsHandled.{Tries, Places as PlacesPure}
-use Rattle.object_sweep.specs.Reached.{is_closed, is_in, IsHeld, IsNextEnd, IsReachable, IsSameAs, MayBeLeftOut, without}
+use Rattle.object_sweep.specs.Reached.{is_closed, is_in, IsHeld, IsNextEnd, IsReachable, IsSameAs, is_within, MayBeLeftOut, without}
 use Rattle.object_sweep.specs.Reached.IsReachable.{Opens, Places, Ends}
 use Rattle.object_sweep.specs.Rests.{CanFinish, CanPlace, IsRest, MayStandBehind, NoOpenEndBefore, RunForwards}
 use Rattle.object_sweep.proofs.Lists.{at_is_in, closed_behind, closed_ended, closed_left_out, closed_placed, same_closed, same_if}
 use Rattle.object_sweep.proofs.Placed.{complete_tail, dropped, sound, times_here, undropped}
 use Rattle.object_sweep.proofs.InPlace.{in_place, long_renamed, renamed}
-use Rattle.object_sweep.proofs.Pure.{shorter, without_idle, without_pure}
+use Rattle.object_sweep.proofs.Lacking.{lacking_of, lacks_fewer, lacks_no_more}
+use Rattle.object_sweep.proofs.Pure.{long_without, shorter, without_idle, without_pure}
 
 module _ {S W : Type 0} (after : S → W → Option S) (log : List (Operation W)) where
   -- what follows depends on what is closed alone
@@ -107,31 +108,33 @@ module _ {S W : Type 0} (after : S → W → Option S) (log : List (Operation W)
 
       waits : nat_eq q ending ≡ false → (i : ℕ) × (other : Configuration S) × (slice_get waiting i ≡ Some other)
           × IsRest after log (is_closed ended other.placed.items) other.state rest
+          × (is_within (one.placed.items ++ q ∷ []) other.placed.items ≡ true)
       waits e =
           let held : IsHeld waiting t (one.placed.items ++ q ∷ []) = subst (λ b. IsPutIn b q t one.placed.items waiting kept) e put in
           let there = same_rest (λ z. is_closed ended one.placed.items z || nat_eq z q) (is_closed ended (one.placed.items ++ q ∷ []))
           (λ z. sym (closed_placed ended one.placed.items q z)) t rest r in
-          (held.0, held.1, held.2, same_rests ended held.1 t (one.placed.items ++ q ∷ []) held.3 rest there)
+          (held.0, held.1, held.2, same_rests ended held.1 t (one.placed.items ++ q ∷ []) held.3 rest there, held.3.2)
 
       goes_on : ((i : ℕ) (other : Configuration S) → slice_get waiting i ≡ Some other →
-          IsRest after log (is_closed ended other.placed.items) other.state rest → AnyCanFinish after log (ending ∷ ended) kept) →
+          IsRest after log (is_closed ended other.placed.items) other.state rest →
+          is_within (one.placed.items ++ q ∷ []) other.placed.items ≡ true → AnyCanFinish after log (ending ∷ ended) kept) →
           AnyCanFinish after log (ending ∷ ended) kept
       goes_on more = elim (cases_Bool (nat_eq q ending)) [
         | inl e ↦ ends_it e
-        | inr e ↦ let w = waits e in more w.0 w.1 w.2 w.3
+        | inr e ↦ let w = waits e in more w.0 w.1 w.2 w.3 w.4
       ]
 
-    -- of a shorter rest something is kept
-    abbrev KeepsShorter : List ℕ → Type 0
-    KeepsShorter rest = (i : ℕ) (one : Configuration S) → slice_get waiting i ≡ Some one → (less : List ℕ) →
-        IsRest after log (is_closed ended one.placed.items) one.state less → length less < length rest →
-        AnyCanFinish after log (ending ∷ ended) kept
+    -- where a rest is shorter, or more is placed, something is kept
+    abbrev KeepsSmaller : ℕ → Type 0
+    KeepsSmaller size = (i : ℕ) (one : Configuration S) → slice_get waiting i ≡ Some one → (less : List ℕ) →
+        IsRest after log (is_closed ended one.placed.items) one.state less →
+        length less + lacking_of under_way one.placed.items < size → AnyCanFinish after log (ending ∷ ended) kept
 
     -- where all is tried the first of the rest goes on, or it is idle, and the rest does without it
     tries : (j : ℕ) (one : Configuration S) → slice_get waiting j ≡ Some one →
         AreTried after log under_way ending one.state one.placed.items waiting kept →
         is_in ending one.placed.items ≡ false → (rest : List ℕ) → IsRest after log (is_closed ended one.placed.items) one.state rest →
-        KeepsShorter rest → AnyCanFinish after log (ending ∷ ended) kept
+        KeepsSmaller (length rest + lacking_of under_way one.placed.items) → AnyCanFinish after log (ending ∷ ended) kept
     tries j one there done lack [] h more = left_out one done lack [] h refl
     tries j one there done lack (q ∷ rest) h more = elim (cases_lt 0 (times_of ending (q ∷ rest))) [
       | inr le ↦ left_out one done lack (q ∷ rest) h (omega arith)
@@ -148,18 +151,22 @@ module _ {S W : Type 0} (after : S → W → Option S) (log : List (Operation W)
         does_without o at idle =
             let stands : 0 < times_of q (q ∷ rest) = let e = times_here q rest in omega (arith, e) in
             more j one there (without q (q ∷ rest)) (without_idle after log q o at idle.1 idle.0 (is_closed ended one.placed.items)
-            one.state (q ∷ rest) h) (shorter q (q ∷ rest) stands)
+            one.state (q ∷ rest) h) (let l = shorter q (q ∷ rest) stands in omega (arith, l))
+
+        goes_with : (t : S) → IsPutIn (nat_eq q ending) q t one.placed.items waiting kept →
+            IsRest after log (λ z. is_closed ended one.placed.items z || nat_eq z q) t rest → AnyCanFinish after log (ending ∷ ended) kept
+        goes_with t held r = goes_on one q t held rest r (λ i other at r' w. more i other at rest r'
+            (let l = lacks_no_more one.placed.items q other.placed.items w under_way in omega (arith, l)))
 
         placed_for : (t : S) → CanPlace after log (is_closed ended one.placed.items) end one.state q t →
             IsRest after log (λ z. is_closed ended one.placed.items z || nat_eq z q) t rest →
             IsPlacedFor after log under_way ending one.placed.items q t waiting kept → AnyCanFinish after log (ending ∷ ended) kept
         placed_for t can r (p, inl same, held) =
-            let P : ℕ → Type 0 = λ z. IsPutIn (nat_eq z ending) z t one.placed.items waiting kept in
-            goes_on one q t (subst P same held) rest r (λ i other at r'. more i other at rest r' (omega arith))
+            let P : ℕ → Type 0 = λ z. IsPutIn (nat_eq z ending) z t one.placed.items waiting kept in goes_with t (subst P same held) r
         placed_for t can r (p, inr for, held) = elim (cases_eq p q) [
           | inl same ↦
               let P : ℕ → Type 0 = λ z. IsPutIn (nat_eq z ending) z t one.placed.items waiting kept in
-              goes_on one q t (subst P same held) rest r (λ i other at r'. more i other at rest r' (omega arith))
+              goes_with t (subst P same held) r
           | inr ne ↦ in_place_of (slice_get log p) (slice_get log q) refl refl for.2 ne
         ]
           where
@@ -173,14 +180,15 @@ module _ {S W : Type 0} (after : S → W → Option S) (log : List (Operation W)
             last : NoOpenEndBefore log (is_closed ended one.placed.items) end
             last z at a yet za ends = next.4 z at a (or_parts (is_in z ended) (is_in z one.placed.items) yet).0 za ends
 
-            in_place_of : (m n : Option (Operation W)) → slice_get log p ≡ m → slice_get log q ≡ n → MayStandFor after m n → p ≢ q →
+            in_place_of : (m n : Option (Operation W)) → slice_get log p ≡ m → slice_get log q ≡ n → MayStandFor after p q m n → p ≢ q →
                 AnyCanFinish after log (ending ∷ ended) kept
             in_place_of (Some a) (Some b) pa qb h ne =
                 let starts : b.starts ≤ end =
                 subst (λ (z : Operation W). z.starts ≤ end) (same_Some can.0 b (sym can.1 ∙ qb)) can.3 in
-                goes_on one p t held (map (renamed p q) rest) (in_place after log forwards p q a b pa qb h ne
-                (is_closed ended one.placed.items) end last starts can.2 free t rest r) (λ i other at r'. more i other at (map (renamed p q)
-                rest) r' (let l = long_renamed p q rest in omega (arith, l)))
+                goes_on one p t held (map (renamed p q) rest) (in_place after log forwards p q a b pa qb h.0 ne
+                (is_closed ended one.placed.items) end last starts can.2 free t rest r) (λ i other at r' w. more i other at
+                (map (renamed p q) rest) r' (let l = long_renamed p q rest in
+                let m = lacks_no_more one.placed.items p other.placed.items w under_way in omega (arith, l, m)))
             in_place_of (Some a) None pa qb h ne = absurd h
             in_place_of None n pa qb h ne = absurd h
 
@@ -191,48 +199,34 @@ module _ {S W : Type 0} (after : S → W → Option S) (log : List (Operation W)
             let stepped : step_from after log one.state one.placed.items q ≡ Some t = rw (open_parts.1, can.1) can.4 in
             let a = at_is_in under_way q (way.all q can.0 can.1 can.3 open_parts.0) in done.tried a.0 q t a.1 stepped
 
-    -- where a pure operation is placed that is sure to stand in the rest, the rest without it goes on
-    places : (one : Configuration S) (q : ℕ) (o : Operation W) (t : S) → slice_get log q ≡ Some o → IsSureAndPure after (Some o) →
+    -- where a pure operation is placed the rest without it goes on
+    places : (one : Configuration S) (q : ℕ) (o : Operation W) (t : S) → slice_get log q ≡ Some o → IsPure after o →
         is_in q under_way ≡ true → is_in q one.placed.items ≡ false → after one.state o.what ≡ Some t →
         IsPutIn (nat_eq q ending) q t one.placed.items waiting kept → (rest : List ℕ) →
-        IsRest after log (is_closed ended one.placed.items) one.state rest → KeepsShorter rest →
-        AnyCanFinish after log (ending ∷ ended) kept
-    places one q o t at sure there lack step put rest h more =
-        goes_on one q t put (without q rest) placed (λ i other e r. more i other e (without q rest) r (shorter q rest stands))
+        IsRest after log (is_closed ended one.placed.items) one.state rest →
+        KeepsSmaller (length rest + lacking_of under_way one.placed.items) → AnyCanFinish after log (ending ∷ ended) kept
+    places one q o t at pure there lack step put rest h more =
+        goes_on one q t put (without q rest) placed (λ i other e r w. more i other e (without q rest) r
+        (let l = long_without q rest in
+        let m = lacks_fewer one.placed.items q other.placed.items w under_way there lack in omega (arith, l, m)))
       where
-        free : is_closed ended one.placed.items q ≡ false
-        free = both (is_in q ended) (is_in q one.placed.items) (way.begun q there).3 lack
-          where
-            both : (a b : Bool) → a ≡ false → b ≡ false → (a || b) ≡ false
-            both false b f g = g
-            both true b f g = cc
-
-        once : (f due : Bool) (times : ℕ) → f ≡ false → due ≡ true → MayStandBehind f due times → times ≡ 1
-        once true due times e d m = cc
-        once false true times e d m = m
-        once false false times e d m = cc
-
-        stands : 0 < times_of q rest
-        stands =
-            let one_time = once (is_closed ended one.placed.items q) (is_due o) (times_of q rest) free sure.0 (h.listing q o at) in
-            omega (arith, one_time)
-
         placed : IsRest after log (λ z. is_closed ended one.placed.items z || nat_eq z q) t (without q rest)
         placed =
             let P : S → Type 0 = λ z. IsRest after log (λ r. is_closed ended one.placed.items r || nat_eq r q) z (without q rest) in
-            let still : t ≡ one.state = sure.1 one.state t step in
-            subst P (sym still) (without_pure after log q o at sure.1 (is_closed ended one.placed.items) one.state rest h)
+            let still : t ≡ one.state = pure one.state t step in
+            subst P (sym still) (without_pure after log q o at pure (is_closed ended one.placed.items) one.state rest h)
 
     keeps : (j : ℕ) (one : Configuration S) → slice_get waiting j ≡ Some one →
         IsHandled after log under_way ending one.state one.placed.items waiting kept →
         is_in ending one.placed.items ≡ false → (rest : List ℕ) → IsRest after log (is_closed ended one.placed.items) one.state rest →
-        KeepsShorter rest → AnyCanFinish after log (ending ∷ ended) kept
+        KeepsSmaller (length rest + lacking_of under_way one.placed.items) → AnyCanFinish after log (ending ∷ ended) kept
     keeps j one e (Tries done) lack rest h more = tries j one e done lack rest h more
-    keeps j one e (PlacesPure q o t at sure there free step put) lack rest h more =
-        places one q o t at sure there free step put rest h more
+    keeps j one e (PlacesPure q o t at pure there free step put) lack rest h more =
+        places one q o t at pure there free step put rest h more
 
     pub finished : (n i : ℕ) (one : Configuration S) → slice_get waiting i ≡ Some one → (rest : List ℕ) →
-        IsRest after log (is_closed ended one.placed.items) one.state rest → length rest ≤ n → AnyCanFinish after log (ending ∷ ended) kept
+        IsRest after log (is_closed ended one.placed.items) one.state rest →
+        length rest + lacking_of under_way one.placed.items ≤ n → AnyCanFinish after log (ending ∷ ended) kept
     finished zero i one at rest h few =
         keeps i one at (handled i one at) (lacking i one at) rest h (λ j other e less r l. absurd (omega arith))
     finished (suc n) i one at rest h few =

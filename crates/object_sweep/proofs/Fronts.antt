@@ -10,16 +10,19 @@ use Rattle.object_sweep.specs.declared.configuration.Configuration.{Configuratio
 use Rattle.object_sweep.specs.declared.event.Event.{Event}
 use Rattle.object_sweep.specs.declared.log_sweep.Verdict.{Verdict}
 use Rattle.object_sweep.specs.declared.log_sweep.Verdict.TheVariants.{Lawful, Unlawful, TooMany}
+use Rattle.object_sweep.specs.inner.Cuts.{EndsAt, IsCut, KeepsEnds}
 use Rattle.object_sweep.specs.inner.Ends.{AreAlwaysTooMany, IsEventPassed}
 use Rattle.object_sweep.specs.inner.Events.{AreEvents, begins, ends, IsEventAmong, IsEvent, IsOpened, IsFrontBehind, ComesNoLater}
 use Rattle.object_sweep.specs.inner.Steps.{AnyCanFinish, AreUnderWay, IsPassed}
-use Rattle.object_sweep.specs.Reached.{AreReachable, AreTooMany, is_closed, is_in, IsNextEnd, IsReachable, without}
-use Rattle.object_sweep.specs.Reached.IsReachable.{Opens}
+use Rattle.object_sweep.specs.Reached.{AreReachable, AreTooMany, is_closed, is_in, IsLostAt, IsNextEnd, IsReachable, MayBeLeftOut, without}
+use Rattle.object_sweep.specs.Reached.IsReachable.{Opens, Ends}
 use Rattle.object_sweep.specs.Rests.{CanFinish, NoOpenEndBefore, RunForwards}
 use Rattle.object_sweep.specs.Verdicts.{IsSweepVerdict}
+use Rattle.object_sweep.proofs.Cuts.{AreFirst, before_end, cut_next, cut_reached, IsBeforeEnd, keeps_ends, no_other_end, so_far}
+use Rattle.object_sweep.proofs.Cuts.{so_far_is_cut, whole}
 use Rattle.object_sweep.proofs.Exact.{back}
 use Rattle.object_sweep.proofs.Lists.{get_front, get_last, get_push, is_in_push, same_if, without_other}
-use Rattle.object_sweep.proofs.Placed.{other_number, same_number}
+use Rattle.object_sweep.proofs.Placed.{or_right, other_number, same_number}
 use Rattle.object_sweep.proofs.Whole.{last_end, opened}
 
 -- one more event
@@ -101,7 +104,7 @@ module _ {S W : Type 0} (after : S → W → Option S) (opening : S) (log : List
           let same : h.0 ≡ i = omega arith in
           let one : e ≡ x = same_Some e x (sym here ∙ (ap (slice_get events) (sym same) ∙ h.1)) in
           let P : Event → Type 0 = λ z. ComesNoLater e z in
-          inr (subst P one (record { at = omega arith; ends = λ f g. g }))
+          inr (subst P one (record { at = omega arith; ends = λ f g. g; place = λ f g. omega arith }))
     ]
   ]
 
@@ -176,6 +179,12 @@ module _ {S W : Type 0} (after : S → W → Option S) (opening : S) (log : List
             or_true false = refl
 
     -- an operation ends
+    it_ended : (ended : List ℕ) → is_in e.place (e.place ∷ ended) ≡ true
+    it_ended ended = ap (λ b. b || is_in e.place ended) (same_number e.place)
+
+    had_ended : (ended : List ℕ) (q : ℕ) → is_in q ended ≡ true → is_in q (e.place ∷ ended) ≡ true
+    had_ended ended q t = or_right (nat_eq e.place q) (is_in q ended) t
+
     pub way_at : e.ends ≡ true → AreUnderWay log under_way front.ended e.at
     way_at ends_it = record { begun = begun; all = all }
       where
@@ -238,8 +247,8 @@ module _ {S W : Type 0} (after : S → W → Option S) (opening : S) (log : List
           some = front.some;
         })
       where
-        had_ended : is_in e.place front.ended ≡ true
-        had_ended = elim (cases_Bool (is_in e.place front.ended)) [
+        has_ended : is_in e.place front.ended ≡ true
+        has_ended = elim (cases_Bool (is_in e.place front.ended)) [
           | inl t ↦ t
           | inr f ↦
               let starts : is_event.0.starts ≤ e.at = forwards e.place e.at is_event.0 is_event.1 (is_event.3 ends_it) in
@@ -249,7 +258,7 @@ module _ {S W : Type 0} (after : S → W → Option S) (opening : S) (log : List
         all_ended : (q at : ℕ) → IsEventAmong (ends at q) (take i events ++ e ∷ []) → is_in q front.ended ≡ true
         all_ended q at a = elim (among_end ends_it q at a) [
           | inl d ↦ front.all_ended q at d
-          | inr s ↦ let P : ℕ → Type 0 = λ z. is_in z front.ended ≡ true in subst P s had_ended
+          | inr s ↦ let P : ℕ → Type 0 = λ z. is_in z front.ended ≡ true in subst P s has_ended
         ]
 
     -- and which was under way
@@ -265,11 +274,15 @@ module _ {S W : Type 0} (after : S → W → Option S) (opening : S) (log : List
           have_begun = have_begun;
           all_begun = all_begun;
           reached = passed.reached opening front.ended e.at (next_at ends_it h) (way_at ends_it) front.reached;
-          complete = λ l. passed.complete opening front.ended e.at forwards (next_at ends_it h) (way_at ends_it) front.reached
-              (front.complete l);
+          complete = λ cut is keeps l. passed.complete opening front.ended e.at forwards (next_at ends_it h) (way_at ends_it) front.reached
+              cut is (keeps e.place e.at (it_ended front.ended) ends_then) (front.complete cut is
+              (λ q at t. keeps q at (had_ended front.ended q t)) l);
           some = some;
         })
       where
+        ends_then : EndsAt log e.place e.at
+        ends_then = let n = next_at ends_it h in (n.0, n.1, n.2)
+
         have_ended : (q : ℕ) → is_in q (e.place ∷ front.ended) ≡ true → (at : ℕ) × IsEventAmong (ends at q) (take i events ++ e ∷ [])
         have_ended q t = elim (or_cases (nat_eq e.place q) (is_in q front.ended) t) [
           | inr d ↦ let a = front.have_ended q d in (a.0, among_front (take i events) e (ends a.0 q) a.1)
@@ -311,11 +324,112 @@ module _ {S W : Type 0} (after : S → W → Option S) (opening : S) (log : List
             apart t u = cc
 
     -- nothing is kept
+    none_of : e.ends ≡ true → is_in e.place under_way ≡ true → IsPassed after log under_way e.place held [] →
+        (cut : List (Operation W)) → IsCut log cut → KeepsEnds log cut (e.place ∷ front.ended) → ¬ IsLinearizable after opening cut
+    none_of ends_it h passed cut is keeps l =
+        let ends_then : EndsAt log e.place e.at = let n = next_at ends_it h in (n.0, n.1, n.2) in
+        let a = passed.complete opening front.ended e.at forwards (next_at ends_it h) (way_at ends_it) front.reached cut is
+        (keeps e.place e.at (it_ended front.ended) ends_then)
+        (front.complete cut is (λ q at t. keeps q at (had_ended front.ended q t)) l) in
+        let at : None ≡ Some a.1 = a.2 in cc
+
     pub none_kept : e.ends ≡ true → is_in e.place under_way ≡ true → IsPassed after log under_way e.place held [] →
         ¬ IsLinearizable after opening log
-    none_kept ends_it h passed l =
-        let a = passed.complete opening front.ended e.at forwards (next_at ends_it h) (way_at ends_it) front.reached (front.complete l) in
-        let at : None ≡ Some a.1 = a.2 in cc
+    none_kept ends_it h passed l = none_of ends_it h passed log (whole log) (λ q at t ends. ends) l
+
+    -- what ended comes before what ends later
+    first_ended : e.ends ≡ true → AreFirst log (e.place ∷ front.ended)
+    first_ended ends_it p q at end pa qb there le lower =
+        elim (behind (ends at p) (are.all.ended p at pa.0 (slice_get_within log p pa.0 pa.1) pa.1 pa.2)) [
+          | inl d ↦ had_ended front.ended p (front.all_ended p at d)
+          | inr late ↦ elim (or_cases (nat_eq e.place q) (is_in q front.ended) there) [
+            | inl s ↦
+                let same : e.place ≡ q = same_if e.place q s in
+                let his : slice_get log q ≡ Some is_event.0 = ap (slice_get log) (sym same) ∙ is_event.1 in
+                let one : is_event.0 ≡ qb.0 = same_Some is_event.0 qb.0 (sym his ∙ qb.1) in
+                let at_once : Some e.at ≡ Some end =
+                sym (is_event.3 ends_it) ∙ (ap (λ (z : Operation W). z.ends) one ∙ qb.2) in
+                let moment : e.at ≡ end = same_Some e.at end at_once in
+                let after_it : e.at ≤ at = late.at in
+                let no_lower : e.place ≤ p = late.place (omega (arith, moment, after_it, le)) ends_it in
+                let no_higher : p ≤ q = lower (omega (arith, moment, after_it, le)) in
+                let P : ℕ → Type 0 = λ z. is_in z (e.place ∷ front.ended) ≡ true in
+                subst P (omega (arith, no_lower, no_higher, same)) (it_ended front.ended)
+            | inr r ↦
+                let a = front.have_ended q r in
+                let of = are.all.each (ends a.0 q) (among_all (ends a.0 q) a.1) in
+                let one : of.0 ≡ qb.0 = same_Some of.0 qb.0 (sym of.1 ∙ qb.1) in
+                let at_once : Some a.0 ≡ Some end = sym (of.3 refl) ∙ (ap (λ (z : Operation W). z.ends) one ∙ qb.2) in
+                let moment : a.0 ≡ end = same_Some a.0 end at_once in
+                let early = before (ends a.0 q) a.1 in
+                let before_it : a.0 ≤ e.at = early.at in
+                let after_it : e.at ≤ at = late.at in
+                let no_lower : e.place ≤ p = late.place (omega (arith, moment, before_it, after_it, le)) ends_it in
+                let low : q ≤ e.place = early.place (omega (arith, moment, before_it, after_it, le)) (sym ends_it) in
+                let no_higher : p ≤ q = lower (omega (arith, moment, before_it, after_it, le)) in
+                let P : ℕ → Type 0 = λ z. is_in z (e.place ∷ front.ended) ≡ true in
+                subst P (omega (arith, no_lower, no_higher, low)) (it_ended front.ended)
+          ]
+        ]
+
+    -- so nothing is reached behind the end
+    none_reached : e.ends ≡ true → is_in e.place under_way ≡ true → IsPassed after log under_way e.place held [] →
+        (s : S) (placed : List ℕ) → ¬ IsReachable after opening log (e.place ∷ front.ended) s placed
+    none_reached ends_it h passed s placed r =
+        none_of ends_it h passed cut is (keeps_ends log (e.place ∷ front.ended)) lawful
+      where
+        cut : List (Operation W)
+        cut = so_far log (e.place ∷ front.ended)
+
+        is : IsCut log cut
+        is = so_far_is_cut log (e.place ∷ front.ended) (first_ended ends_it)
+
+        b : IsBeforeEnd after opening log front.ended e.place
+        b = before_end after opening log r e.place front.ended refl
+
+        next : IsNextEnd log front.ended e.place e.at
+        next = next_at ends_it h
+
+        ends_then : EndsAt cut e.place e.at
+        ends_then = keeps_ends log (e.place ∷ front.ended) e.place e.at (it_ended front.ended) (next.0, next.1, next.2)
+
+        there : IsReachable after opening cut (e.place ∷ front.ended) b.0 (without e.place b.1)
+        there = Ends front.ended b.1 b.0 (cut_reached log cut is after opening b.2 e.place e.at next ends_then
+            (λ q at t. keeps_ends log (e.place ∷ front.ended) q at (had_ended front.ended q t))) e.place e.at
+            (cut_next log cut is front.ended e.place e.at next ends_then) (by_out b.3)
+          where
+            by_out : (is_in e.place b.1 ≡ true) ⊎ MayBeLeftOut log e.place → (is_in e.place b.1 ≡ true) ⊎ MayBeLeftOut cut e.place
+            by_out (inl i) = inl i
+            by_out (inr m) = let c = is.each e.place m.0 m.1 in inr (c.0, c.1, c.2.maybe ∙ m.2)
+
+        all_over : (p : ℕ) (o : Operation W) → slice_get cut p ≡ Some o →
+            is_closed (e.place ∷ front.ended) (without e.place b.1) p ≡ false → o.ends ≡ None
+        all_over p o at free =
+            no_other_end log (e.place ∷ front.ended) p o at
+            (or_parts (is_in p (e.place ∷ front.ended)) (is_in p (without e.place b.1)) free).0
+
+        lawful : IsLinearizable after opening cut
+        lawful = (opened after opening cut).0 (back after cut opening there (last_end after cut
+            (is_closed (e.place ∷ front.ended) (without e.place b.1)) b.0 all_over))
+
+    pub lost_there : e.ends ≡ true → is_in e.place under_way ≡ true → IsPassed after log under_way e.place held [] →
+        IsLostAt after opening log e.place
+    lost_there ends_it h passed = record {
+      ended = front.ended;
+      end = e.at;
+      next = next_at ends_it h;
+      before = by_held held refl;
+      behind = none_reached ends_it h passed;
+    }
+      where
+        by_held : (list : List (Configuration S)) → held ≡ list →
+            (s : S) × (placed : List ℕ) × IsReachable after opening log front.ended s placed
+        by_held [] same =
+            let l : 0 < length held = front.some in
+            let n : length held ≡ 0 = ap (λ (z : List (Configuration S)). length z) same in absurd (omega arith)
+        by_held (one ∷ rest) same =
+            let at : slice_get held 0 ≡ Some one = ap (λ z. slice_get z 0) same in
+            (one.state, one.placed.items, front.reached 0 one at)
 
     pub many_kept : e.ends ≡ true → is_in e.place under_way ≡ true → (budget : ℕ) →
         AreAlwaysTooMany after log under_way e.place held budget → AreTooMany after opening log budget e.place
@@ -343,7 +457,9 @@ module _ {S W : Type 0} (after : S → W → Option S) (opening : S) (log : List
         IsSweepVerdict after opening log budget verdict
     front_verdict budget under_way' held' verdict false is h = absurd h
     front_verdict budget under_way' held' Lawful true is h = absurd h
-    front_verdict budget under_way' held' Unlawful true is h = none_kept is h.0 h.1
+    front_verdict budget under_way' held' (Unlawful p) true is h =
+        let P : ℕ → Type 0 = λ z. IsLostAt after opening log z in
+        (none_kept is h.0 h.2, subst P (sym h.1) (lost_there is h.0 h.2))
     front_verdict budget under_way' held' (TooMany p) true is h =
         let P : ℕ → Type 0 = λ z. AreTooMany after opening log budget z in subst P (sym h.1) (many_kept is h.0 budget h.2)
 
@@ -376,11 +492,12 @@ module _ {S W : Type 0} (after : S → W → Option S) (opening : S) (log : List
           subst P (same_Some one other at) (subst Q (sym first.1.2) (subst R (sym first.1.3) Opens))
       reached (suc i) other at = cc
 
-      complete : IsLinearizable after opening log → AnyCanFinish after log [] (one ∷ [])
-      complete l =
-          let Q : S → Type 0 = λ z. CanFinish after log (is_closed [] one.placed.items) z in
-          let R : List ℕ → Type 0 = λ z. CanFinish after log (is_closed [] z) opening in
-          (0, one, refl, subst Q (sym first.1.2) (subst R (sym first.1.3) ((opened after opening log).1 l)))
+      complete : (cut : List (Operation W)) → IsCut log cut → KeepsEnds log cut [] → IsLinearizable after opening cut →
+          AnyCanFinish after cut [] (one ∷ [])
+      complete cut is keeps l =
+          let Q : S → Type 0 = λ z. CanFinish after cut (is_closed [] one.placed.items) z in
+          let R : List ℕ → Type 0 = λ z. CanFinish after cut (is_closed [] z) opening in
+          (0, one, refl, subst Q (sym first.1.2) (subst R (sym first.1.3) ((opened after opening cut).1 l)))
 
   -- behind all events
   pub front_last : AreEvents log events → (under_way : List ℕ) (held : List (Configuration S)) →

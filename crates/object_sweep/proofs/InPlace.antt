@@ -1,7 +1,7 @@
 -- An operation is placed in the place of another: what follows has the other one where it had this one.
 use Rattle.std.proofs.Common.{◌≡◌, ◌≢◌, ℕ, ◌+◌, ◌<◌, ◌≤◌, Bool, true, false, cond, ◌||◌, nat_eq, List, [], ◌∷◌, length, map}
 use Rattle.std.proofs.Common.{slice_get, Option, Some, suc, refl, sym, ◌∙◌, ap, subst, arith, ◌⊎◌, inl, inr}
-use Rattle.std.proofs.lemmas.Bool.{cases_Bool, cases_eq}
+use Rattle.std.proofs.lemmas.Bool.{cases_eq}
 use Rattle.std.proofs.lemmas.Option.{same_Some}
 use Rattle.history_core.proofs.Listing.{times_cons}
 use Rattle.history_core.specs.Orders.{times_of}

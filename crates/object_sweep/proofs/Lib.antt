@@ -4,6 +4,8 @@ pub mod Pure
 pub mod InPlace
 pub mod Whole
 pub mod Lists
+pub mod Lacking
+pub mod Cuts
 pub mod Exact
 pub mod Adding
 pub mod Fronts

@@ -49,7 +49,7 @@ times_at_most p q rest = elim (cases_eq q p) [
 ]
 
 -- and how long that is
-long_without : (q : ℕ) (rest : List ℕ) → length (without q rest) ≤ length rest
+pub long_without : (q : ℕ) (rest : List ℕ) → length (without q rest) ≤ length rest
 long_without q [] = omega arith
 long_without q (x ∷ xs) = by_test (nat_eq x q) refl (long_without q xs)
   where

@@ -1,5 +1,6 @@
 -- What the contracts speak of.
 pub mod Rests
+pub mod Cuts
 pub mod Reached
 pub mod Verdicts
 pub mod inner

@@ -69,6 +69,14 @@ module _ {S W : Type 0} where
   AreReachable after opening log ended held = (i : ℕ) (one : Configuration S) → slice_get held i ≡ Some one →
       IsReachable after opening log ended one.state one.placed.items
 
+  -- the log is lost at the end of the operation at this place: before it something is reached, and behind it nothing is
+  pub record IsLostAt (after : S → W → Option S) (opening : S) (log : List (Operation W)) (place : ℕ) : Type 0 where
+    pub ended : List ℕ
+    pub end : ℕ
+    pub next : IsNextEnd log ended place end
+    pub before : (s : S) × (placed : List ℕ) × IsReachable after opening log ended s placed
+    pub behind : (s : S) (placed : List ℕ) → ¬ IsReachable after opening log (place ∷ ended) s placed
+
   -- at the end of the operation at this place more configurations than the budget are reached, before it or behind it
   pub record AreTooMany (after : S → W → Option S) (opening : S) (log : List (Operation W))
       (budget place : ℕ) : Type 0 where

@@ -6,7 +6,7 @@ use Rattle.object_sweep.specs.declared.log_sweep.SweepError.{SweepError}
 use Rattle.object_sweep.specs.declared.log_sweep.SweepError.TheVariants.{NoMemory, Backwards}
 use Rattle.object_sweep.specs.declared.log_sweep.Verdict.{Verdict}
 use Rattle.object_sweep.specs.declared.log_sweep.Verdict.TheVariants.{Lawful, Unlawful, TooMany}
-use Rattle.object_sweep.specs.Reached.{AreTooMany}
+use Rattle.object_sweep.specs.Reached.{AreTooMany, IsLostAt}
 
 module _ {W : Type 0} where
   -- the operation at this place ended before it began
@@ -22,5 +22,6 @@ module _ {S W : Type 0} where
   -- the verdict on a log
   abbrev pub IsSweepVerdict : (S → W → Option S) → S → List (Operation W) → ℕ → Verdict → Type 0
   IsSweepVerdict after opening log budget Lawful = IsLinearizable after opening log
-  IsSweepVerdict after opening log budget Unlawful = ¬ IsLinearizable after opening log
+  IsSweepVerdict after opening log budget (Unlawful place) =
+      ¬ IsLinearizable after opening log × IsLostAt after opening log place
   IsSweepVerdict after opening log budget (TooMany place) = AreTooMany after opening log budget place

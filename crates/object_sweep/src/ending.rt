@@ -5,8 +5,8 @@ ghost use Rattle.std.specs.Prelude.{IfSome, IsTrue, OnOk};
 ghost use Rattle.object_core.specs.declared.operation.Operation.{Operation};
 ghost use Rattle.object_sweep.specs.Reached.{is_in};
 ghost use Rattle.object_sweep.specs.inner.Ends.{AreAlwaysTooMany};
-ghost use Rattle.object_sweep.specs.inner.Steps.{AreStarted, IsClosed, IsCopyAt, IsExplored, IsIdle, IsLeftOut};
-ghost use Rattle.object_sweep.specs.inner.Steps.{IsPassed, IsPureNext, IsPut, IsSorted, IsSureAndPure};
+ghost use Rattle.object_sweep.specs.inner.Steps.{AreStarted, IsClosed, IsCopyAt, IsExplored, IsFirst, IsIdle};
+ghost use Rattle.object_sweep.specs.inner.Steps.{IsLeftOut, IsPassed, IsPureNext, IsPut, IsSorted, IsSureAndPure};
 ghost use Rattle.object_sweep.specs.inner.Steps.{IsInPlaceOf, IsTried, IsVisited, may_be_left_out};
 ghost use Rattle.object_sweep.specs.inner.Steps.{MayStandFor, StandsInFor, step_from};
 
@@ -141,13 +141,20 @@ fn is_in_place_of<O: Object>(one: &Operation<O::What>, other: &Operation<O::What
         && ends_no_later(one.ends, other.ends)
 }
 
+/// Of ends at one moment that of the lower place comes first.
+fn comes_first(end: Option<u64>, other: Option<u64>, place: usize, other_place: usize) -> bool
+    ensures { IsTrue result → IsFirst place other_place end other }
+{
+    end != other || place <= other_place
+}
+
 /// Whether the operation at one place may be placed for that at another.
 fn may_stand_for<O: Object>(log: &[Operation<O::What>], one: usize, other: usize) -> bool
-    ensures { IsTrue result → MayStandFor O.after (slice_get log.now one) (slice_get log.now other) }
+    ensures { IsTrue result → MayStandFor O.after one other (slice_get log.now one) (slice_get log.now other) }
 {
     match log.get(one) {
         Some(a) => match log.get(other) {
-            Some(b) => is_in_place_of::<O>(a, b),
+            Some(b) => is_in_place_of::<O>(a, b) && comes_first(a.ends, b.ends, one, other),
             None => false,
         },
         None => false,
@@ -163,7 +170,7 @@ fn is_sooner<O: Object>(
     place: usize,
 ) -> bool
     ensures { IsTrue result → (is_in one placed.now ≡ false)
-        × MayStandFor O.after (slice_get log.now one) (slice_get log.now place) }
+        × MayStandFor O.after one place (slice_get log.now one) (slice_get log.now place) }
 {
     !is_in(one, placed)
         && may_stand_for::<O>(log, one, first)

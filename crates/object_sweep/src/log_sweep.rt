@@ -18,8 +18,8 @@ use std::alloc::{AllocError, Global};
 pub enum Verdict {
     /// It has a lawful order.
     Lawful,
-    /// It has none.
-    Unlawful,
+    /// It has none: behind the end of the operation at this place nothing is reached.
+    Unlawful { place: usize },
     /// At the end of the operation at this place there are more configurations than the budget.
     TooMany { place: usize },
 }
@@ -40,8 +40,7 @@ struct Front<O> {
 }
 
 /// Whether a log of an object has a lawful order. The sweep goes over beginnings and ends, and at each end explores
-/// what may
-/// be placed by then, in at most `budget` configurations.
+/// what may be placed by then. It gives up where more configurations than the budget are held.
 pub fn sweep<O: Object>(
     alloc: Global,
     opening: O,
@@ -133,7 +132,7 @@ fn end<O: Object>(
         None => Ok(Some(Verdict::TooMany { place })),
         Some(kept) => {
             if kept.is_empty() {
-                return Ok(Some(Verdict::Unlawful));
+                return Ok(Some(Verdict::Unlawful { place }));
             }
             front.under_way = without(alloc, place, front.under_way.as_slice())?;
             front.configurations = kept;

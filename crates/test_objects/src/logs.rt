@@ -56,8 +56,8 @@ fn reads(rt: HostRuntime) {
         (2, 3, 1, Verdict::Lawful),
         (4, 5, 0, Verdict::Lawful),
         (5, 6, 1, Verdict::Lawful),
-        (5, 6, 0, Verdict::Unlawful),
-        (5, 6, 2, Verdict::Unlawful),
+        (5, 6, 0, Verdict::Unlawful { place: 1 }),
+        (5, 6, 2, Verdict::Unlawful { place: 1 }),
     ] {
         let log = [write, done(starts, ends, Exchange::Gets(seen))];
         assert_eq!(rt;
@@ -82,7 +82,7 @@ fn repeats(rt: HostRuntime) {
     );
     assert_eq!(rt;
         of_register(alloc, &[late, seen, over, again]),
-        Some(Verdict::Unlawful)
+        Some(Verdict::Unlawful { place: 3 })
     );
     let twice = unfinished(1, Exchange::Sets(1));
     assert_eq!(rt;
@@ -102,7 +102,7 @@ fn perhaps_written(rt: HostRuntime) {
     assert_eq!(rt; of_register(alloc, &[write, new]), Some(Verdict::Lawful));
     assert_eq!(rt;
         of_register(alloc, &[write, old, new]),
-        Some(Verdict::Unlawful)
+        Some(Verdict::Unlawful { place: 2 })
     );
 }
 
@@ -113,10 +113,10 @@ fn swaps(rt: HostRuntime) {
     let first = done(1, 4, Exchange::Swaps(0, 1));
     for (what, wanted) in [
         (Exchange::Swaps(1, 2), Verdict::Lawful),
-        (Exchange::Swaps(0, 2), Verdict::Unlawful),
+        (Exchange::Swaps(0, 2), Verdict::Unlawful { place: 0 }),
         (Exchange::Misses(0), Verdict::Lawful),
         (Exchange::Finds(2, 1), Verdict::Lawful),
-        (Exchange::Finds(1, 1), Verdict::Unlawful),
+        (Exchange::Finds(1, 1), Verdict::Unlawful { place: 1 }),
         (Exchange::Tries(5, 6), Verdict::Lawful),
     ] {
         assert_eq!(rt;
@@ -136,7 +136,7 @@ fn limits(rt: HostRuntime) {
     let refused = done(3, 4, Access::IsRefused(6));
     assert_eq!(rt;
         verdict(alloc, opening, &[write, refused]),
-        Some(Verdict::Unlawful)
+        Some(Verdict::Unlawful { place: 1 })
     );
     let other = unfinished(1, Access::Writes(7));
     assert_eq!(rt;
@@ -154,7 +154,7 @@ fn locks(rt: HostRuntime) {
     let other = done(3, 6, Turn::Took(2));
     assert_eq!(rt;
         verdict(alloc, free, &[one, other]),
-        Some(Verdict::Unlawful)
+        Some(Verdict::Unlawful { place: 1 })
     );
     let let_go = done(4, 5, Turn::LetGo(1));
     assert_eq!(rt;
@@ -174,7 +174,10 @@ fn many_reads(rt: HostRuntime) {
     }
     assert_eq!(rt; of_register(alloc, &log), Some(Verdict::Lawful));
     log[40] = done(2, 90, Exchange::Gets(2));
-    assert_eq!(rt; of_register(alloc, &log), Some(Verdict::Unlawful));
+    assert_eq!(rt;
+        of_register(alloc, &log),
+        Some(Verdict::Unlawful { place: 40 })
+    );
     for k in 1..41 {
         log[k] = unfinished(2, Exchange::Gets(k as u64 % 2));
     }
@@ -198,6 +201,26 @@ fn many_equal_writes(rt: HostRuntime) {
     let opening = Exchanging { held: 0 };
     for (budget, wanted) in [(2, Verdict::TooMany { place: 2 }), (3, Verdict::Lawful)] {
         assert_eq!(rt; sweep(alloc, opening, &log, budget).ok(), Some(wanted));
+    }
+}
+
+/// A log is lost at the first end that is one too many, also of those at one moment.
+#[test]
+fn lost(rt: HostRuntime) {
+    let alloc = rt.alloc();
+    let swap = done(1, 3, Exchange::Swaps(0, 1));
+    let later = done(1, 4, Exchange::Swaps(0, 1));
+    for (log, place) in [
+        ([swap, swap, swap], 1),
+        ([later, swap, later], 0),
+        ([later, later, swap], 0),
+        ([swap, later, swap], 2),
+    ] {
+        assert_eq!(rt;
+            of_register(alloc, &log),
+            Some(Verdict::Unlawful { place }),
+            "{log:?}"
+        );
     }
 }
 

@@ -11,7 +11,7 @@ fn main(rt: HostRuntime) -> io::Result<()> {
     for line in rt.lines(rt.alloc()) {
         match judge(rt.alloc(), line?.as_str()) {
             Judged::As(Verdict::Lawful) => println!(rt; "lawful")?,
-            Judged::As(Verdict::Unlawful) => println!(rt; "unlawful")?,
+            Judged::As(Verdict::Unlawful { place }) => println!(rt; "unlawful {place}")?,
             Judged::As(Verdict::TooMany { place }) => println!(rt; "too many {place}")?,
             Judged::Backwards { place } => println!(rt; "backwards {place}")?,
             Judged::NoMemory => println!(rt; "no memory")?,

@@ -4,7 +4,9 @@
 
 PROGRAM reads a log a line and prints a verdict on each (crates/test_sweeps). Of each object there are N logs. The verdict on a log is right
 by the definition alone: an order of some of its operations, in which each that surely took effect stands once and any other at most once,
-nothing stands behind an operation that ended before it began, and each operation makes a step of the object.
+nothing stands behind an operation that ended before it began, and each operation makes a step of the object. An unlawful log is told as
+`unlawful P`: the end of the operation at place P is the first, in the order of moments and places, at which the log so far has no order,
+which knows the operations that began by then, and of their ends those up to this one.
 
 With --budgets the logs have small budgets, and beside `lawful` and `unlawful` the answer may be `too many P`: then more configurations than
 the budget have to be reached before or behind the end of the operation at place P, which are counted here one after the other. The first
@@ -90,13 +92,31 @@ def has_order(machine, log):
     return goes_on([], machine.opening)
 
 
+def ends_in_order(log):
+    return sorted((op.ends, p) for p, op in enumerate(log) if op.ends is not None)
+
+
+def lost_at(machine, log):
+    """The place of the first end at which the log so far has no order; none where the log has one."""
+    for end, place in ends_in_order(log):
+        so_far = (op if op.ends is None or (op.ends, p) <= (end, place) else op._replace(ends=None) for p, op in enumerate(log))
+        if not has_order(machine, [op for op in so_far if op.starts <= end]):
+            return place
+    return None
+
+
+def verdict(machine, log):
+    if has_order(machine, log):
+        return "lawful"
+    return f"unlawful {lost_at(machine, log)}"
+
+
 def reached(machine, log):
     """By each number of ends, in the order of moments and places, the configurations that are reached behind so many: states with the sets
     of places that are placed and haven't ended."""
-    ends = sorted((op.ends, p) for p, op in enumerate(log) if op.ends is not None)
     ended, front = set(), {(machine.opening, frozenset())}
     found = []
-    for end, ending in ends:
+    for end, ending in ends_in_order(log):
         waiting = list(front)
         for state, placed in waiting:
             for p, op in enumerate(log):
@@ -137,7 +157,7 @@ def fault(machine, log, budget, said):
     if said.startswith("too many "):
         most = max((len(front) for ending, front in reached(machine, log) if ending == int(said.split()[2])), default=0)
         return None if most > budget else f"{most} configurations are reached there, and the budget is {budget}"
-    wanted = "lawful" if has_order(machine, log) else "unlawful"
+    wanted = verdict(machine, log)
     return None if said == wanted else f"it is {wanted}"
 
 

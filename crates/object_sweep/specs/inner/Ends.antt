@@ -31,8 +31,8 @@ module _ {S W : Type 0} where
       × IsPassed after log under_way place held held' ×
       (0 < length held'))
   IsEndPassed after log budget place under_way held under_way' held' (Some Lawful) = ⊥
-  IsEndPassed after log budget place under_way held under_way' held' (Some Unlawful) =
-      (is_in place under_way ≡ true) × IsPassed after log under_way place held []
+  IsEndPassed after log budget place under_way held under_way' held' (Some (Unlawful p)) =
+      (is_in place under_way ≡ true) × (p ≡ place) × IsPassed after log under_way place held []
   IsEndPassed after log budget place under_way held under_way' held' (Some (TooMany p)) =
       (is_in place under_way ≡ true) × (p ≡ place) × AreAlwaysTooMany after log under_way place held budget
 

@@ -4,6 +4,7 @@ use Rattle.object_core.specs.declared.operation.Operation.{Operation}
 use Rattle.object_core.specs.Logs.{IsLinearizable}
 use Rattle.object_sweep.specs.declared.configuration.Configuration.{Configuration}
 use Rattle.object_sweep.specs.declared.event.Event.{Event}
+use Rattle.object_sweep.specs.inner.Cuts.{IsCut, KeepsEnds}
 use Rattle.object_sweep.specs.inner.Steps.{AnyCanFinish}
 use Rattle.object_sweep.specs.Reached.{AreReachable, is_in}
 
@@ -28,6 +29,7 @@ events_of o place = begins o.starts place ∷ end_of o.ends place
 pub record ComesNoLater (x y : Event) : Type 0 where
   pub at : x.at ≤ y.at
   pub ends : x.at ≡ y.at → x.ends ≡ true → y.ends ≡ true
+  pub place : x.at ≡ y.at → x.ends ≡ y.ends → x.place ≤ y.place
 
 module _ {W : Type 0} where
   -- an operation begins or ends then
@@ -64,5 +66,6 @@ module _ {S W : Type 0} where
         × (is_in q ended ≡ false)
     pub all_begun : (q at : ℕ) → IsEventAmong (begins at q) done → is_in q ended ≡ false → is_in q under_way ≡ true
     pub reached : AreReachable after opening log ended configurations
-    pub complete : IsLinearizable after opening log → AnyCanFinish after log ended configurations
+    pub complete : (cut : List (Operation W)) → IsCut log cut → KeepsEnds log cut ended →
+        IsLinearizable after opening cut → AnyCanFinish after cut ended configurations
     pub some : 0 < length configurations

@@ -8,6 +8,7 @@ use Rattle.object_sweep.specs.declared.configuration.Configuration.{Configuratio
 use Rattle.object_sweep.specs.Reached.{AreApart, AreReachable, is_closed, is_in, IsHeld, IsNextEnd, IsReachable}
 use Rattle.object_sweep.specs.Reached.{without}
 use Rattle.object_sweep.specs.Rests.{CanFinish, RunForwards}
+use Rattle.object_sweep.specs.inner.Cuts.{EndsAt, IsCut}
 
 module _ {S : Type 0} where
   -- it has the very list of places
@@ -80,6 +81,10 @@ pub record AreUnderWay {W : Type 0} (log : List (Operation W)) (under_way ended 
   pub all : (q : ℕ) (o : Operation W) → slice_get log q ≡ Some o → o.starts ≤ end → is_in q ended ≡ false →
       is_in q under_way ≡ true
 
+-- of two that end at one moment that at the lower place ends first
+abbrev pub IsFirst : ℕ → ℕ → Option ℕ → Option ℕ → Type 0
+IsFirst p q end other = (at : ℕ) → end ≡ Some at → other ≡ Some at → p ≤ q
+
 module _ {S W : Type 0} where
   -- the state after one more operation, if it can be placed
   abbrev pub made_by : (S → W → Option S) → S → Option (Operation W) → Option S
@@ -119,17 +124,17 @@ module _ {S W : Type 0} where
     pub due : is_due b ≡ true → is_due a ≡ true
     pub sooner : (end : ℕ) → b.ends ≡ Some end → (at : ℕ) × (a.ends ≡ Some at) × (at ≤ end)
 
-  abbrev pub MayStandFor : (S → W → Option S) → Option (Operation W) → Option (Operation W) → Type 0
-  MayStandFor after (Some a) (Some b) = IsInPlaceOf after a b
-  MayStandFor after (Some a) None = ⊥
-  MayStandFor after None b = ⊥
+  abbrev pub MayStandFor : (S → W → Option S) → ℕ → ℕ → Option (Operation W) → Option (Operation W) → Type 0
+  MayStandFor after p q (Some a) (Some b) = IsInPlaceOf after a b × IsFirst p q a.ends b.ends
+  MayStandFor after p q (Some a) None = ⊥
+  MayStandFor after p q None b = ⊥
 
   -- the operation at place r is placed for that at place q: it is the same one, or it is under way, isn't placed, and
   -- may be in its place
   abbrev pub StandsInFor : (S → W → Option S) → List (Operation W) → List ℕ → List ℕ → ℕ → ℕ → Type 0
   StandsInFor after log under_way placed r q =
       (r ≡ q) ⊎ ((is_in r under_way ≡ true) × (is_in r placed ≡ false)
-      × MayStandFor after (slice_get log r) (slice_get log q))
+      × MayStandFor after r q (slice_get log r) (slice_get log q))
 
   -- what an operation leads to is held, or what another one leads to that is placed for it
   abbrev pub IsPlacedFor : (S → W → Option S) → List (Operation W) → List ℕ → ℕ → List ℕ → ℕ → S →
@@ -145,13 +150,13 @@ module _ {S W : Type 0} where
     pub tried : (j q : ℕ) (t : S) → slice_get under_way j ≡ Some q → step_from after log s placed q ≡ Some t →
         IsIdle after (slice_get log q) ⊎ IsPlacedFor after log under_way ending placed q t waiting kept
 
-  -- of a configuration all that it leads to is held, or what such an operation leads to that can be placed
+  -- of a configuration all that it leads to is held, or what a pure operation leads to that can be placed
   pub data IsHandled (after : S → W → Option S) (log : List (Operation W)) (under_way : List ℕ) (ending : ℕ) (s : S)
       (placed : List ℕ)
       (waiting kept : List (Configuration S)) : Type 0 where
     Tries : AreTried after log under_way ending s placed waiting kept →
         IsHandled after log under_way ending s placed waiting kept
-    Places : (q : ℕ) (o : Operation W) (t : S) → slice_get log q ≡ Some o → IsSureAndPure after (Some o) →
+    Places : (q : ℕ) (o : Operation W) (t : S) → slice_get log q ≡ Some o → IsPure after o →
         is_in q under_way ≡ true → is_in q placed ≡ false → after s o.what ≡ Some t →
         IsPutIn (nat_eq q ending) q t placed waiting kept →
         IsHandled after log under_way ending s placed waiting kept
@@ -228,4 +233,5 @@ module _ {S W : Type 0} where
         AreReachable after opening log ended configurations → AreReachable after opening log (ending ∷ ended) kept
     pub complete : (opening : S) (ended : List ℕ) (end : ℕ) → RunForwards log → IsNextEnd log ended ending end →
         AreUnderWay log under_way ended end → AreReachable after opening log ended configurations →
-        AnyCanFinish after log ended configurations → AnyCanFinish after log (ending ∷ ended) kept
+        (cut : List (Operation W)) → IsCut log cut → EndsAt cut ending end →
+        AnyCanFinish after cut ended configurations → AnyCanFinish after cut (ending ∷ ended) kept
