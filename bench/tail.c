@@ -97,7 +97,7 @@ static void *burn(void *unused) {
 static void *wake(void *seconds) {
     static struct record item;
     struct timespec at;
-    const uint64_t end = now() + *(int *)seconds * 1000000000u;
+    const uint64_t end = now() + *(int *)seconds * UINT64_C(1000000000);
     clock_gettime(CLOCK_MONOTONIC, &at);
     while (turns < MOST && now() < end) {
         at.tv_nsec += PERIOD;

@@ -28,6 +28,7 @@ make_root() {
         "$top"/out/packages/*.crate "$top"/out/packages/nidzaru-tests-* "$top/examples/c/small.c" "$root/home/user/" || exit 1
     [ -e "$root/dev/null" ] || mknod -m 666 "$root/dev/null" c 1 3
     [ -e "$root/dev/urandom" ] || mknod -m 666 "$root/dev/urandom" c 1 9
+    mkdir -p "$root/dev/shm" && chmod 1777 "$root/dev/shm"
     echo "$1: $2 for $($in_machine chroot "$root" dpkg --print-architecture), $($in_machine chroot "$root" gcc --version | head -n 1)," \
         "rt: $($in_machine chroot "$root" sh -c 'command -v rt' || echo none)"
 }
@@ -43,6 +44,12 @@ step() {
     else
         fail "$1, $took s" "$said"
     fi
+}
+
+# One step with processes that share a block, one of which is killed. (qemu's programs have no robust mutexes.)
+#   between TITLE COMMANDS
+between() {
+    [ -n "$in_machine" ] || step "$1" 'none was torn' "{ $2; } | grep -o 'none was torn'"
 }
 
 whole='no record was torn'
@@ -66,6 +73,7 @@ step "C from the tar, installed" "$whole" "tar xf nidzaru-2*-linux.tar.gz; cd ni
 step "the README's program in C" "$whole" "cc -O2 small.c -lnidzaru -pthread -o mine; ./mine"
 step "C from the tar, a board" "$whole" "cd nidzaru-2*-linux; cc -O2 $doc/board.c -lnidzaru -pthread -o ../mine; ../mine"
 step "C from where the tar lies" "$whole" "cd nidzaru-2*-linux; cc -O2 $doc/tasks.c -Iinclude lib/libnidzaru.a -pthread -o ../mine; ../mine"
+between "C between processes" "cd nidzaru-2*-linux; cc -std=gnu11 -O2 $doc/processes.c -lnidzaru -pthread -o ../mine; cd; ./mine 20 ./mine"
 step "uninstalled" 0 "cd nidzaru-2*-linux; ./install --uninstall /usr/local; find /usr/local -type f | wc -l"
 step "C from the Debian package" "$whole" "dpkg -i libnidzaru-dev_*.deb
     cc -O2 /usr/share/doc/libnidzaru-dev/examples/c/tasks.c -lnidzaru -pthread -o mine
@@ -85,6 +93,10 @@ step "Rust from the crate" "$whole" "tar xf nidzaru-2*.crate
     cp ../nidzaru-2*.*[0-9]/examples/control_loop.rs src/main.rs
     { sleep 0.3; echo hold; sleep 0.1; echo run; sleep 0.2; echo stop; } | cargo run -q --offline"
 step "the README's program in Rust" "$whole" "cd mine; cp ../nidzaru-2*.*[0-9]/examples/small.rs src/main.rs; cargo run -q --offline"
+between "C++ between processes" "cd nidzaru-2*-linux; c++ -std=c++17 -O2 $doc/processes.cpp $flags -pthread -o ../mixed; ../mixed 20"
+between "Rust between processes" "cd mine; cargo add -q --offline --features shared --path ../nidzaru-2*.*[0-9]
+    cp ../nidzaru-2*.*[0-9]/examples/processes.rs src/main.rs; cargo build -q --offline; target/debug/mine 20 target/debug/mine"
+between "C beside Rust" "cd nidzaru-2*-linux; cc -std=gnu11 -O2 $doc/processes.c $flags -pthread -o ../mixed; cd; ./mixed 20 mine/target/debug/mine"
 step "C by pkg-config" "$whole" "cd nidzaru-2*-linux; cc -O2 $doc/tasks.c $flags -pthread -o ../c; ../c"
 [ -z "$in_machine" ] || step "the tests' package" "passed, 0 failed" "tar xf nidzaru-tests-*.tar.gz; cd nidzaru-tests-*
     tests/arm.sh ~/prefix >../tests.log; tail -n 1 ../tests.log | sed 's/^[1-9][0-9]* //'"
