@@ -824,6 +824,8 @@ CRATE = [
     ("a recovery by the other side's number", BLOCK, "codes[usize::from(!is_writer)]", "codes[usize::from(is_writer)]", "blocks"),
     *[(f"a recovery without {what}", BLOCK, f"side.set(lies::{old});", "", "blocks")
       for what, old in (("its number", "NUMBER, numbers[newest]"), ("what it showed", "LATEST, newest as u64"))],
+    ("a cut-off write that isn't finished", BLOCK, "if shown != newest {", "if false {", "blocks"),
+    ("a reader that said nothing is lost", BLOCK, "(side.get(lies::SAID) <= 2)", "(side.get(lies::SAID) < 2)", "blocks"),
     ("what leads out of the block", BLOCK, "is_inside.then(||", "Some(is_inside).map(|_|", "blocks"),
     ("records that point", SHARED, "const fn is<T: $crate::shared::Record>() {} $(is::<$type>();)*", "const fn is<T: $crate::shared::Record>() {}",
      "blocks_doc shared_record"),

@@ -393,6 +393,10 @@ int main(int count, char **words) {
     snprintf(second, sizeof second, "/nidzaru-test-%ld-second", (long)getpid());
     is("no block", elsewhere("attach"), NIDZARU_SHARED_NO_BLOCK);
     is("no place for a block", plant_create(NIDZARU_NOWHERE, name, 1 << 20, &plant), NIDZARU_NULL);
+    is("a detach of no block", nidzaru_shared_detach(NIDZARU_NOWHERE), NIDZARU_NULL);
+    is("an opening of no block", nidzaru_shared_open(NIDZARU_NOWHERE), NIDZARU_NULL);
+    is("an unlink of no block", nidzaru_shared_unlink(NIDZARU_NOWHERE, name), NIDZARU_NULL);
+    is("what is left of no block", (int)nidzaru_shared_left(NIDZARU_NOWHERE), 0);
     is("a block", plant_create(&block, name, 1 << 20, &plant), 0);
     is("a block that isn't open", elsewhere("attach"), NIDZARU_SHARED_NOT_READY);
     make_all(&block, plant);

@@ -260,6 +260,8 @@ try_own_files() {
 
 # One fault after the other.
 plant_faults() {
+    planted '/^int nidzaru_shared_detach/,/^}/s/if (!block) return NIDZARU_NULL;//' signal
+    planted '/^int nidzaru_shared_open/,/^}/s/if (!block) return NIDZARU_NULL;//' signal
     planted 's/setrobust(&kind, PTHREAD_MUTEX_ROBUST)/settype(\&kind, PTHREAD_MUTEX_ERRORCHECK)/' 'a writer that yields'
     planted '/why = pthread_mutex_consistent/d' 'a writer that yields'
     planted '/if (handle->side.live == NIDZARU_BUSY)/d' 'a claim of a side that was cut off'

@@ -294,7 +294,21 @@ fn a_side_that_was_cut_off_is_refused() {
         writer.write(&limits(n)).unwrap();
         assert_eq!((reader.latest(), reader.number()), (limits(n), n));
     }
-    drop((reader, writer));
+    // A write that was cut off before it showed its record is done.
+    drop(writer);
+    let within = |address: u64| (address - 0x2000_0000_0000) as usize;
+    let words = word_of(name, within(word_of(name, within(at))) + 8);
+    let shown = within(words) + 8 * 8;
+    change(name, shown as u64, 1 ^ word_of(name, shown));
+    change(name, handle as u64, 255);
+    drop(root.limits.recover_writer(block).unwrap());
+    assert_eq!((reader.latest(), reader.number()), (limits(8), 8));
+    // A reader is recovered, also one that has said nothing since the last recovery.
+    drop(reader);
+    for _ in 0..2 {
+        change(name, handle as u64 + 96, 255);
+        drop(root.limits.recover_reader(block).unwrap());
+    }
     change(name, handle as u64 + 96, 255);
     let mut reader = root.limits.recover_reader(block).unwrap();
     assert_eq!((reader.latest(), reader.number()), (limits(8), 8));
