@@ -25,6 +25,14 @@ else
     fi
     catches_in_tree "a long line of a definition" "matrix_play has .* lines of .src/. and .specs/." crates/matrix_play/specs/MatrixRuns.antt \
         "2s/^/-- $(printf '%0121d' 0)\n/" python3 tests/gate/lines.py
+    # Nor do two crates share more lines.
+    if python3 tests/gate/duplicates.py >"$room/out" 2>&1; then
+        pass "$(cat "$room/out")"
+    else
+        fail "what stands twice" "$(head -n 3 "$room/out" | tr '\n' ' ')"
+    fi
+    catches_in_tree "a passage of another crate" "history_core and matrix_core share .* lines" crates/matrix_core/specs/Lib.antt \
+        '$r crates/history_core/specs/Orders.antt' python3 tests/gate/duplicates.py
 fi
 
 # Scripts have no error that shellcheck knows, and the headers whose functions are no macros have the layout of .clang-format, where these
