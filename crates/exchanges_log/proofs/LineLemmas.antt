@@ -2,7 +2,7 @@
 use Rattle.std.proofs.Common.{◌≡◌, ℕ, ◌<◌, List, [], ◌∷◌, ◌++◌, length, refl, ap, sym, ◌∙◌, arith, subst, slice_get, Some, None, Option, Ok}
 use Rattle.std.proofs.Common.{Bool, ◌⊎◌, inl, inr, length-append}
 use Rattle.std.specs.Prelude.{option_map}
-use Rattle.std.proofs.lemmas.Option.{same_Some, slice_get_within}
+use Rattle.std.proofs.lemmas.Option.{slice_get_within}
 use Rattle.history_core.proofs.Places.{get_last, get_pushed_cases, get_stays}
 use Rattle.object_core.specs.declared.operation.Operation.{Operation}
 use Rattle.object_registers.specs.declared.exchanging.Exchange.{Exchange}

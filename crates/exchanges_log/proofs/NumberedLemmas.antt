@@ -1,14 +1,13 @@
 -- Records that get their numbers one after the other: those that were met stay where they stand.
-use Rattle.std.proofs.Common.{◌≡◌, ℕ, List, [], ◌∷◌, ◌++◌, length, refl, ap, sym, ◌∙◌, subst, slice_get, Some, None, Option}
-use Rattle.std.proofs.Common.{◌⊎◌, inl, inr, zero, suc}
-use Rattle.std.specs.Prelude.{string_bytes}
+use Rattle.std.proofs.Common.{◌≡◌, ℕ, List, [], ◌∷◌, ◌++◌, length, refl, ap, sym, ◌∙◌, subst, slice_get, Some, None}
+use Rattle.std.proofs.Common.{inl, inr, zero, suc}
 use Rattle.history_core.proofs.Places.{get_last, get_pushed_cases, get_stays}
 use Rattle.object_registers.specs.declared.exchanging.Exchange.{Exchange}
-use Rattle.object_registers.specs.declared.exchanging.Exchange.TheVariants.{Sets, Gets, Swaps, Misses, Finds, Tries}
+use Rattle.object_registers.specs.declared.exchanging.Exchange.TheVariants.{Gets, Finds}
 use Rattle.read_line.specs.Numberings.{GaveNumber, IsNumbering, MeetsRecord}
 use Rattle.read_line.specs.declared.numbering.Numbering.{Numbering}
 use Rattle.lines_log.specs.inner.Numbers.{Grow}
-use Rattle.read_exchange.specs.Exchanges.{SaidExchange, sets, gets, swaps, misses, finds, tries}
+use Rattle.read_exchange.specs.Exchanges.{SaidExchange, gets, finds}
 use Rattle.exchanges_log.specs.ExchangeLogs.{MeansExchange, texts_of}
 use Rattle.exchanges_log.specs.inner.ExchangeNumbers.{AreNumbersOf, GaveNumbers, GrowBy, IsExchangeNow}
 

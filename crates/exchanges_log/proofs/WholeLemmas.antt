@@ -1,7 +1,7 @@
 -- Line by line: what is left of the body becomes shorter, and what was read longer.
 use Rattle.std.proofs.Common.{◌≡◌, ◌≢◌, ℕ, List, [], ◌∷◌, ◌++◌, length, refl, ap, sym, ◌∙◌, subst, Some, None, Option, Ok, Err}
 use Rattle.std.proofs.Common.{Bool, true, false, ◌⊎◌, inl, inr, append_assoc, Result}
-use Rattle.std.specs.Prelude.{◌==◌, if◌then◌else◌}
+use Rattle.std.specs.Prelude.{if◌then◌else◌}
 use Rattle.std.proofs.lemmas.List.{append-nil}
 use Rattle.object_core.specs.declared.operation.Operation.{Operation}
 use Rattle.object_registers.specs.declared.exchanging.Exchange.{Exchange}
@@ -11,7 +11,7 @@ use Rattle.read_document.specs.declared.key.Key.TheVariants as key
 use Rattle.read_document.specs.Refusals.{◌>>=◌}
 use Rattle.read_document.specs.Splits.{IsSplit, lines_of}
 use Rattle.program_runs.specs.declared.fault.Fault.{Fault}
-use Rattle.lines_log.specs.Faults.{is_end, is_last, refused_at}
+use Rattle.lines_log.specs.Faults.{is_end, refused_at}
 use Rattle.lines_log.specs.Logs.{same_key, text_of}
 use Rattle.lines_log.proofs.BodyLemmas.{end_is, last_of_rest, none_left}
 use Rattle.lines_log.proofs.FaultLemmas.{is_memory}

@@ -1,5 +1,5 @@
 //! One line behind the header.
-ghost use Rattle.std.specs.Prelude.{◌≡◌, None, true, option_map, string_bytes};
+ghost use Rattle.std.specs.Prelude.{None, true, option_map, string_bytes};
 ghost use Rattle.read_document.specs.Refusals.{Gives};
 ghost use Rattle.exchanges_log.specs.ExchangeLogs.{judged, judged_line};
 ghost use Rattle.read_exchange.specs.Exchanges.{done, exchange_seen, keyed_seen, operation, refused};

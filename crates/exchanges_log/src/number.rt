@@ -1,5 +1,5 @@
 //! Numbers in place of records.
-ghost use Rattle.std.specs.Prelude.{◌≡◌, [], ◌∷◌, ℕ, List, IfOk, string_bytes};
+ghost use Rattle.std.specs.Prelude.{[], ◌∷◌, ℕ, List, IfOk, string_bytes};
 ghost use Rattle.read_line.specs.Numberings.{IsNumbering};
 ghost use Rattle.read_exchange.specs.Exchanges.{exchange_seen, what_seen};
 ghost use Rattle.exchanges_log.specs.inner.ExchangeNumbers.{GaveNumbers, IsExchangeNow, IsOperationNow};
