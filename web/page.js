@@ -18,7 +18,7 @@ const WORDS = {
   "play": ["Played"],
   "picture": ["Drawn", "Drawn: it isn't lawful"],
 };
-const ENDS = { 3: "Refused: nothing is said of its operations", 4: "Out of memory" };
+const ENDS = { 3: "Refused: nothing is said of its operations", 4: "Out of memory", 7: "No verdict" };
 const BOUNDS = { "64 MB": 2 ** 26, "256 MB": 2 ** 28, "1 GB": 2 ** 30, "4 GB": 2 ** 32, "12 GB": 12 * 2 ** 30 };
 // The regions of an answer whose numbers are lines or operations of the document.
 const NAMED = /\blines? \d+(?: and \d+)?|\boperations? \d+(?:(?: and| precedes) \d+)*|^(?:unlawful \w+|order:|writes:)(?: \d+)+/gim;
@@ -172,7 +172,7 @@ const sizeOf = bytes => (bytes < 1e3 ? `${bytes} bytes` : bytes < 1e6 ? inUnits(
 const timeOf = ms => (ms < 1e3 ? inUnits(ms, "ms") : inUnits(ms / 1e3, "s"));
 
 // What an answer to a log in lines says beside its verdict: which line is wrong, or how little the log shows.
-const SAYS = /^(Lines? \d|(Little|Nothing) was shown)/;
+const SAYS = /^(Lines? \d|Up to the end of line \d|(Little|Nothing) was shown)/;
 
 // The sentence of an answer: the program's own, where it prints one, else that of the picture.
 function sentenceOf(data, text) {

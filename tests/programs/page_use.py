@@ -155,7 +155,8 @@ class Use:
     # -- the parts --
 
     def examples(self):
-        """Each example shows the words of its status, and the text that stands beside it; logs without an order show a picture."""
+        """Each example shows the words of its status, and the text that stands beside it; a log without an order
+        shows a picture, but for one whose records repeat."""
         names = self.js("[...document.querySelectorAll('#examples button')].map(it => it.dataset.name)")
         self.need(len(names) > 20, f"the page has {len(names)} examples")
         for name in names:
@@ -166,12 +167,15 @@ class Use:
             self.need(kind == ["good", "bad", "", "odd"][status], f"{name} is shown as {kind}: {title}")
             self.need(self.js("$('printed').textContent") == text_of(f"{stem}.txt"), f"{name} is shown with another text")
             self.need(f"status {status}" in facts, f"{name}: the facts are {facts}")
-            has_picture = status <= 1 and not (name.endswith(".jsonl") and status == 0)
+            repeats = '"repeats":true' in text_of(f"{TOP}/examples/{name}")
+            has_picture = status <= 1 and not (name.endswith(".jsonl") and (status == 0 or repeats))
             self.need(self.js("!$('figure').hidden") == has_picture, f"{name}: picture shown: {not has_picture}")
             if name in ("crossed.json", "stalled_reader.json", "lines_early.jsonl", "no_limit.json"):
                 self.shot(name.partition(".")[0])
         self.after("example('lines_stale.jsonl')")
         self.need("Line 3 gave the opening" in self.shown()[1], f"the sentence is {self.shown()[1]}")
+        self.after("example('lines_lost.jsonl')")
+        self.need(self.shown()[1].startswith("Up to the end of line 5"), f"the sentence is {self.shown()[1]}")
         self.after(f"(put({json.dumps(text_of(f'{TOP}/examples/race.json'))}, ''), ask())")
         self.need("needs threads" in self.shown()[1], f"of a race the page says {self.shown()[1]}")
 
