@@ -32,6 +32,7 @@ AnswersOrder log (Err (fault.Lines why)) = ⊥
 AnswersOrder log (Err (fault.Schedule position)) = ⊥
 AnswersOrder log (Err fault.NoMemory) = ⊥
 AnswersOrder log (Err fault.NoThread) = ⊥
+AnswersOrder log (Err (fault.Undecided line)) = ⊥
 
 -- how the refusal of bytes is told that have no header of kind `lines`
 abbrev pub fault_of : DocError → Fault

@@ -26,3 +26,4 @@ AnswersCell schedule (Err (fault.Lines why)) = ⊥
 AnswersCell schedule (Err (fault.Schedule position)) = IsFirstOverrun (cell_span schedule ∷ []) position
 AnswersCell schedule (Err fault.NoMemory) = ⊥
 AnswersCell schedule (Err fault.NoThread) = ⊥
+AnswersCell schedule (Err (fault.Undecided line)) = ⊥

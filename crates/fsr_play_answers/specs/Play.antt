@@ -34,6 +34,7 @@ AnswersTerms spans IsMade told (Err (fault.Lines why)) = ⊥
 AnswersTerms spans IsMade told (Err (fault.Schedule position)) = IsFirstOverrun spans position
 AnswersTerms spans IsMade told (Err fault.NoMemory) = ⊥
 AnswersTerms spans IsMade told (Err fault.NoThread) = ⊥
+AnswersTerms spans IsMade told (Err (fault.Undecided line)) = ⊥
 
 -- the answer to the schedule of a matrix; titled, where its terms are told
 abbrev pub AnswersMatrix : MatrixSchedule Band → Bool → Result Answer Fault → Type 0

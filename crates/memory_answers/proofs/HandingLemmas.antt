@@ -17,6 +17,7 @@ module _ (IsReply : Result Answer Fault → Type 0) where
   is_reply (fault.Lines why) status given same other = given (search rules)
   is_reply (fault.Schedule position) status given same other = given (search rules)
   is_reply fault.NoThread status given same other = given (search rules)
+  is_reply (fault.Undecided line) status given same other = given (search rules)
 
   pub answers : (reply : Result Answer Fault) (old new : List ℕ) (size status : ℕ) → GivesReply IsReply reply
       → IsHandedOut reply old new size status → AnswersInMemory IsReply old new size status

@@ -108,6 +108,7 @@ DrawsCell schedule (Err (fault.Lines why)) = ⊥
 DrawsCell schedule (Err (fault.Schedule position)) = IsFirstOverrun (cell_span schedule ∷ []) position
 DrawsCell schedule (Err fault.NoMemory) = ⊥
 DrawsCell schedule (Err fault.NoThread) = ⊥
+DrawsCell schedule (Err (fault.Undecided line)) = ⊥
 
 -- the answer to the schedule of a matrix, likewise
 abbrev pub DrawsMatrix : MatrixSchedule Band → Result Answer Fault → Type 0
@@ -120,6 +121,7 @@ DrawsMatrix schedule (Err (fault.Lines why)) = ⊥
 DrawsMatrix schedule (Err (fault.Schedule position)) = IsFirstOverrun (spans_of schedule.terms) position
 DrawsMatrix schedule (Err fault.NoMemory) = ⊥
 DrawsMatrix schedule (Err fault.NoThread) = ⊥
+DrawsMatrix schedule (Err (fault.Undecided line)) = ⊥
 
 -- the answer to the schedule of a composed board, likewise
 abbrev pub DrawsBoard : BoardSchedule Band → Result Answer Fault → Type 0
@@ -132,6 +134,7 @@ DrawsBoard schedule (Err (fault.Lines why)) = ⊥
 DrawsBoard schedule (Err (fault.Schedule position)) = IsFirstOverrun (board_spans schedule.terms) position
 DrawsBoard schedule (Err fault.NoMemory) = ⊥
 DrawsBoard schedule (Err fault.NoThread) = ⊥
+DrawsBoard schedule (Err (fault.Undecided line)) = ⊥
 
 -- the answer to a schedule
 abbrev pub DrawsSchedule : ScheduleDocument → Result Answer Fault → Type 0

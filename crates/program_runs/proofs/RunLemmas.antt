@@ -46,6 +46,8 @@ status_told program (fault.Lines why) old new failed_old failed_new status (inl 
 status_told program (fault.Lines why) old new failed_old failed_new status (inr memory) = inr memory.1
 status_told program (fault.Schedule position) old new failed_old failed_new status (inl told) = inl told.1.1
 status_told program (fault.Schedule position) old new failed_old failed_new status (inr memory) = inr memory.1
+status_told program (fault.Undecided line) old new failed_old failed_new status (inl told) = inl told.1.1
+status_told program (fault.Undecided line) old new failed_old failed_new status (inr memory) = inr memory.1
 
 -- ---- runs without an answer
 
@@ -163,6 +165,7 @@ module _ (IsReply : List ℕ → Result Answer Fault → Type 0) (is_unbounded :
   ends_refused out (fault.Lines why) refused = ends_with_fault out (fault.Lines why) (refused (search rules))
   ends_refused out (fault.Schedule position) refused = ends_with_fault out (fault.Schedule position) (refused (search rules))
   ends_refused out fault.NoThread refused = ends_with_fault out fault.NoThread (refused (search rules))
+  ends_refused out (fault.Undecided line) refused = ends_with_fault out (fault.Undecided line) (refused (search rules))
 
   -- the text went out whole
   ends_told : (out_old out_new : Option (List ℕ)) (a : Answer) → IsReply taken (Ok a) → a.status ≤ 1 → Appends out_old out_new a.text
@@ -230,6 +233,7 @@ no_stream (fault.History why) = λ five. absurd (omega (arith, five))
 no_stream (fault.Lines why) = λ five. absurd (omega (arith, five))
 no_stream (fault.Schedule position) = λ five. absurd (omega (arith, five))
 no_stream fault.NoThread = λ five. absurd (omega (arith, five))
+no_stream (fault.Undecided line) = λ five. absurd (omega (arith, five))
 
 pub fails_answered : (in_old in_new out_old out_new status : ℕ) (old new : Option (List ℕ)) (reply : Result Answer Fault) → in_new ≡ in_old
     → HasLowStatus reply → GivesAnswer reply old new out_old out_new status → Fails in_old in_new out_old out_new status

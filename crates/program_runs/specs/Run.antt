@@ -12,6 +12,7 @@ use Rattle.program_runs.specs.declared.fault.Answer.{Answer}
 use Rattle.program_runs.specs.declared.fault.Fault.{Fault}
 use Rattle.program_runs.specs.declared.run.Program.{Program}
 use Rattle.program_runs.specs.declared.fault.Fault.TheVariants.{Document, History, Lines, Schedule, NoMemory, NoThread}
+use Rattle.program_runs.specs.declared.fault.Fault.TheVariants.{Undecided}
 
 -- how a run with this fault ends
 abbrev pub exit_of : Fault → Exit
@@ -21,6 +22,7 @@ exit_of (Lines fault) = exit.Refused
 exit_of (Schedule position) = exit.Refused
 exit_of NoMemory = exit.NoMemory
 exit_of NoThread = exit.NoThread
+exit_of (Undecided line) = exit.Undecided
 
 abbrev pub fault_status : Fault → ℕ
 fault_status fault = status_of (exit_of fault)

@@ -76,6 +76,9 @@ pub enum Fault {
     /// Nothing was run, since a thread can't start.
     #[error("a thread can't start")]
     NoThread,
+    /// There is no verdict on a log: at the end of the operation on this line are more configurations than the budget.
+    #[error("line {line}: too many configurations")]
+    Undecided { line: usize },
 }
 
 impl Fault {
@@ -92,6 +95,7 @@ impl Fault {
             }
             Fault::NoMemory => Exit::NoMemory,
             Fault::NoThread => Exit::NoThread,
+            Fault::Undecided { .. } => Exit::Undecided,
         }
     }
 }

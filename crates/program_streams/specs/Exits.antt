@@ -2,6 +2,7 @@
 use Rattle.std.specs.Prelude.{ℕ}
 use Rattle.program_streams.specs.declared.exit.Exit.{Exit}
 use Rattle.program_streams.specs.declared.exit.Exit.TheVariants.{Sound, Unsound, NoCommand, Refused, NoMemory, Stream, NoThread}
+use Rattle.program_streams.specs.declared.exit.Exit.TheVariants.{Undecided}
 
 abbrev pub status_of : Exit → ℕ
 status_of Sound = 0
@@ -11,3 +12,4 @@ status_of Refused = 3
 status_of NoMemory = 4
 status_of Stream = 5
 status_of NoThread = 6
+status_of Undecided = 7

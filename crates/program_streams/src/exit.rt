@@ -17,6 +17,8 @@ pub enum Exit {
     Stream,
     /// A thread can't start.
     NoThread,
+    /// There is no verdict: more configurations are held than the budget.
+    Undecided,
 }
 
 impl Exit {
@@ -33,6 +35,7 @@ impl Exit {
             Exit::NoMemory => 4,
             Exit::Stream => 5,
             Exit::NoThread => 6,
+            Exit::Undecided => 7,
         }
     }
 }

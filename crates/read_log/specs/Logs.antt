@@ -29,6 +29,7 @@ IsLogFault log (fault.Schedule position) = ⊥
 IsLogFault log (fault.Lines why) = ⊥
 IsLogFault log fault.NoMemory = Unit {0}
 IsLogFault log fault.NoThread = ⊥
+IsLogFault log (fault.Undecided line) = ⊥
 
 -- a log has one term, and its operations run forwards
 abbrev pub IsOfLog : SearchError → Type 0

@@ -1,6 +1,6 @@
 -- No other end has the status.
 use Rattle.program_streams.proofs.ExitLemmas.{alone}
-use Rattle.program_streams.specs.declared.exit.Exit.TheVariants.{Sound, Unsound, NoCommand, Refused, NoMemory, Stream, NoThread}
+use Rattle.program_streams.specs.declared.exit.Exit.TheVariants.{Sound, Unsound, NoCommand, Refused, NoMemory, Stream, NoThread, Undecided}
 use Rattle.program_streams.proofs.exit.Exit.status.Goals as goal
 
 pub returns-in-Sound-clause-alone : goal.returns-in-Sound-clause-alone
@@ -23,3 +23,6 @@ returns-in-Stream-clause-alone c = rw c.in-Stream.is (alone Stream)
 
 pub returns-in-NoThread-clause-alone : goal.returns-in-NoThread-clause-alone
 returns-in-NoThread-clause-alone c = rw c.in-NoThread.is (alone NoThread)
+
+pub returns-in-Undecided-clause-alone : goal.returns-in-Undecided-clause-alone
+returns-in-Undecided-clause-alone c = rw c.in-Undecided.is (alone Undecided)
