@@ -6,8 +6,8 @@
  *
  * The answer's text goes to the front of the buffer, as far as that reaches, and its length to size. If that is larger than the buffer, the
  * rest of the text is lost: call again with a larger one. The status is that of the program: 0, or 1 if something isn't lawful; the text
- * is then what the program prints. It is 3 if the document is refused, and 4 if memory ran out; the text is then the program's line on
- * standard error. docs/FORMATS.md has all of this.
+ * is then what the program prints. It is 3 if the document is refused, 4 if memory ran out, and 7 if there is no verdict, as too much would
+ * have to be tried; the text is then the program's line on standard error. docs/FORMATS.md has all of this.
  *
  * A call leaves some of its memory unfreed: a process that answers many documents grows. Calls of several threads don't disturb each
  * other. The document, the buffer and size may not overlap.

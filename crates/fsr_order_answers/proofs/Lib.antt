@@ -5,4 +5,5 @@ mod LimitLemmas
 pub mod StatusLemmas
 pub mod SmallStatusLemmas
 pub mod LogLemmas
+pub mod ExchangesLemmas
 pub mod OrderLemmas

@@ -4,6 +4,8 @@ use Rattle.program_runs.specs.declared.fault.Answer.{Answer}
 use Rattle.program_runs.specs.declared.fault.Fault.{Fault}
 use Rattle.program_runs.specs.declared.show.Show.{Show}
 use Rattle.read_document.specs.Kinds.{are_lines}
+use Rattle.exchanges_log.specs.ExchangeLogs.{has_repeats}
+use Rattle.fsr_order_answers.specs.Exchanges.{IsExchangesAnswer}
 use Rattle.fsr_order_answers.specs.LinesAnswers.{IsLinesAnswer}
 use Rattle.fsr_order_answers.specs.SmallAnswers.{IsSmallAnswer}
 use Rattle.fsr_order_answers.specs.Logs.{IsLogAnswer}
@@ -13,9 +15,14 @@ abbrev pub IsAnswerIfSmall : Bool → Bool → List ℕ → Result Answer Fault 
 IsAnswerIfSmall true order bytes reply = IsSmallAnswer bytes reply
 IsAnswerIfSmall false order bytes reply = IsLinesAnswer order bytes reply
 
+-- the answer to a log in lines by whether its records repeat: then there is no choice
+abbrev pub IsAnswerInLines : Show → Bool → List ℕ → Result Answer Fault → Type 0
+IsAnswerInLines show true bytes reply = IsExchangesAnswer bytes reply
+IsAnswerInLines show false bytes reply = IsAnswerIfSmall show.small show.order bytes reply
+
 -- the answer by the kind: whether the document is a log in lines
 abbrev pub IsAnswerBy : Show → Bool → List ℕ → Result Answer Fault → Type 0
-IsAnswerBy show true bytes reply = IsAnswerIfSmall show.small show.order bytes reply
+IsAnswerBy show true bytes reply = IsAnswerInLines show (has_repeats bytes) bytes reply
 IsAnswerBy show false bytes reply = IsLogAnswer bytes reply
 
 -- the answer of the command `order` to the bytes of a document

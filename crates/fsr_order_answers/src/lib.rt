@@ -1,8 +1,10 @@
 //! What `fsr` answers to a log, in lines or as a document of kind `log`: a lawful order of it, or the reason why there is none; and the
-//! small log that shows the reason.
+//! small log that shows the reason. Of a log whose records repeat it is the verdict of the sweep.
 #![tactic(auto)]
 
 mod answer;
+mod exchanges;
+mod exchanges_text;
 mod input;
 pub mod laws;
 mod limit;
@@ -16,6 +18,7 @@ mod text;
 mod words;
 
 pub use answer::{order_lines, search_log, status_of};
+pub use exchanges::order_exchanges;
 pub use input::take_log;
 pub use log_answer::order_document;
 pub use logs::order;

@@ -1,27 +1,41 @@
 //! Logs of either kind.
 ghost use Rattle.program_runs.specs.Answers.{GivesReply};
-ghost use Rattle.fsr_order_answers.specs.Order.{IsOrderAnswer};
+ghost use Rattle.exchanges_log.specs.ExchangeLogs.{has_repeats};
+ghost use Rattle.fsr_order_answers.specs.Order.{IsAnswerInLines, IsOrderAnswer};
 
 use crate::answer::order_lines;
+use crate::exchanges::order_exchanges;
 use crate::log_answer::order_document;
 use crate::small_answer::order_small;
+use exchanges_log::has_repeats;
 use program_runs::{Answer, Fault, Show};
 use read_document::are_lines;
 use std::alloc::Global;
 
 /// The answer of the command `order` to the bytes of a document: a lawful order of its log, or the reason why there is none. A log in
-/// lines is told by its first line, and for it alone there is a choice of what is printed.
+/// lines is told by its first line, and one whose records repeat too. For any other one in lines there is a choice of
+/// what is printed.
 pub fn order(alloc: Global, show: Show, bytes: &[u8]) -> Result<Answer, Fault>
     ensures { GivesReply (IsOrderAnswer show bytes.now) result }
 {
     let in_lines = are_lines(alloc, bytes)?;
     if in_lines {
-        if show.small {
-            order_small(alloc, bytes)
-        } else {
-            order_lines(alloc, show.order, bytes)
-        }
+        order_in_lines(alloc, show, bytes)
     } else {
         order_document(alloc, bytes)
+    }
+}
+
+/// The answer to the bytes of a log in lines.
+fn order_in_lines(alloc: Global, show: Show, bytes: &[u8]) -> Result<Answer, Fault>
+    ensures { GivesReply (IsAnswerInLines show (has_repeats bytes.now) bytes.now) result }
+{
+    let repeats = has_repeats(alloc, bytes)?;
+    if repeats {
+        order_exchanges(alloc, bytes)
+    } else if show.small {
+        order_small(alloc, bytes)
+    } else {
+        order_lines(alloc, show.order, bytes)
     }
 }

@@ -72,7 +72,7 @@ fn push_counts(text: &mut Vec<u8>, log: &LinesLog) -> Result<(), AllocError>
 }
 
 /// That the end isn't there, if so.
-fn push_end(text: &mut Vec<u8>, ended: bool) -> Result<(), AllocError>
+pub(crate) fn push_end(text: &mut Vec<u8>, ended: bool) -> Result<(), AllocError>
     ensures { OnOk result (text.new.items ≡ text.old.items ++ end_text ended) }
 {
     if ended {
@@ -82,7 +82,7 @@ fn push_end(text: &mut Vec<u8>, ended: bool) -> Result<(), AllocError>
     }
 }
 
-fn push_count(text: &mut Vec<u8>, number: usize, words: &str) -> Result<(), AllocError>
+pub(crate) fn push_count(text: &mut Vec<u8>, number: usize, words: &str) -> Result<(), AllocError>
     ensures { OnOk result (text.new.items ≡ text.old.items ++ count_text number words.now) }
 {
     push_number(text, number)?;

@@ -1,4 +1,5 @@
 pub mod KeptAt
+pub mod Lost
 pub mod Named
 pub mod Sentences
 pub mod Text

@@ -116,8 +116,8 @@ fn in_lines(reason: Reason) -> Result<Reason, AllocError>
     })
 }
 
-/// The lines behind the header.
-fn body_of(bytes: &[u8]) -> &[u8]
+/// The lines behind the first one.
+pub(crate) fn body_of(bytes: &[u8]) -> &[u8]
     ensures { lines_of result.now ≡ body_of bytes.now }
 {
     match split_line(bytes) {
@@ -151,7 +151,7 @@ fn push_named(
     Ok(())
 }
 
-fn push_line(text: &mut Vec<u8>, place: usize, line: &[u8]) -> Result<(), AllocError>
+pub(crate) fn push_line(text: &mut Vec<u8>, place: usize, line: &[u8]) -> Result<(), AllocError>
     ensures { OnOk result (text.new.items ≡ text.old.items ++ line_text place line.now) }
 {
     let number = line_of(place)?;

@@ -1,0 +1,28 @@
+-- All that is printed of a log whose records repeat (this project's own).
+use Rattle.std.specs.Prelude.{ℕ, ◌++◌, List, codes, length, slice_get, unwrap_or}
+use Rattle.std.specs.Option.{option_and_then}
+use Rattle.exchanges_log.specs.declared.exchanges_log.ExchangesLog.{ExchangesLog}
+use Rattle.object_core.specs.declared.operation.Operation.{Operation}
+use Rattle.print_reasons.specs.Lost.{lost_text}
+use Rattle.fsr_order_answers.specs.Text.{count_text, end_text}
+
+abbrev pub ops_text : ExchangesLog → List ℕ
+ops_text log = count_text (length log.ops.items) (codes " operations, ")
+
+-- how many operations there are, how many of them are unfinished, and how many ended and may have done nothing; how
+-- many records, and whether the end is there
+abbrev pub counts_text : ExchangesLog → List ℕ
+counts_text log =
+    ops_text log ++ count_text log.unfinished (codes " unfinished, ")
+    ++ count_text log.uncertain (codes " uncertain, ")
+    ++ count_text log.records (codes " records") ++ end_text log.ended
+
+abbrev pub lawful_text : ExchangesLog → List ℕ
+lawful_text log = codes "lawful\n" ++ counts_text log
+
+-- when the operation at this place ended
+abbrev pub end_of : {W : Type 0} → List (Operation W) → ℕ → ℕ
+end_of {W} ops place = unwrap_or (option_and_then (λ (o : Operation W). o.ends) (slice_get ops place)) 0
+
+abbrev pub unlawful_text : List ℕ → ExchangesLog → ℕ → List ℕ
+unlawful_text bytes log place = lost_text bytes place (end_of log.ops.items place) ++ counts_text log
