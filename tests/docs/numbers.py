@@ -31,11 +31,12 @@ def counted():
     sources = {it: glob.glob(f"{TOP}/crates/{it}/src/**/*.rt", recursive=True) for it in crates}
     tests = {it: sum(len(re.findall(r"(?m)^\s*#\[test\]", text_of(file))) for file in sources[it]) for it in crates}
     refused = "".join(map(text_of, glob.glob(f"{TOP}/tests/programs/refusals/*.txt"))).split("\n")
-    random, logs = map(int, re.search(r"(?m)^ +test_documents \d+ (\d+) (\d+)$", text_of(f"{TOP}/tests/programs/documents.sh")).groups())
+    taken = re.search(r"(?m)^ +test_documents \d+ (\d+) (\d+) (\d+)$", text_of(f"{TOP}/tests/programs/documents.sh"))
+    random, logs, repeats = map(int, taken.groups())
     lines = [
         f"{len(crates)} crates, {sum(bodies.values())} wrong bodies and {sum(tests.values())} test functions in them; "
         f"{len(glob.glob(f'{TOP}/examples/*.json'))} examples; {len([it for it in refused if it and it[0] != '#'])} documents at the bounds of "
-        f"refusals and rules;\n{random:,} random documents and {logs:,} random logs against a plain reference.",
+        f"refusals and rules;\n{random:,} random documents, {logs:,} random logs and {repeats:,} whose records repeat, against a plain reference.",
         "",
         "Beside the crates, each file compared with what a built program prints:",
         "",

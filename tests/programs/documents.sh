@@ -1,12 +1,15 @@
 #!/bin/sh
 # `fsr` against a plain reference that was written from docs/ alone (tests/programs/reference), on random and hostile documents. As a part
-# of `./test` it takes 2,000 documents of every kind and 8,000 logs, as many as have 5,000 among them that are searched; by hand a seed and
-# a number, of documents and of logs each. usage: tests/programs/documents.sh [SEED [NUMBER]]
+# of `./test` it takes 2,000 documents of every kind, 8,000 logs, as many as have 5,000 among them that are searched, and 4,000 logs in lines
+# whose records repeat; by hand a seed and a number, of documents and of logs each. usage: tests/programs/documents.sh [SEED [NUMBER]]
 
-# Whether the reference finds no difference over so many documents of these kinds.
-#   compare_documents PROGRAM SEED NUMBER KINDS
+# Whether the reference finds no difference over so many documents of these kinds, or of logs whose records repeat.
+#   compare_documents PROGRAM SEED NUMBER KINDS|repeats
 compare_documents() {
-    python3 tests/programs/reference/compare.py "$1" --seed "$2" --documents "$3" --kinds "$4" >"$room/out" 2>&1
+    case $4 in
+    repeats) python3 tests/programs/reference/compare_exchanges.py "$1" --seed "$2" --logs "$3" ;;
+    *) python3 tests/programs/reference/compare.py "$1" --seed "$2" --documents "$3" --kinds "$4" ;;
+    esac >"$room/out" 2>&1
 }
 
 # Whether the last line says that there were so many documents, and some of each of these kinds.
@@ -37,9 +40,24 @@ compares() {
     fi
 }
 
+# Sees that the last comparison had each refusal of a log whose records repeat.
+has_refused() {
+    for told in 'line N: no header of kind `lines`, and no document: not JSON' 'line N: not JSON' 'line N: end before begin' \
+        'missing opening' 'shape of opening' 'shape of limit' 'range of limit' 'law of limit' 'missing who' 'missing kind' 'missing begin' 'missing end' 'missing record' \
+        'shape of who' 'shape of kind' 'shape of begin' 'shape of end' 'shape of record' 'shape of key' 'missing from' 'missing swapped' \
+        'shape of from' 'shape of swapped' 'shape of found' 'law of record' 'law of swapped' 'law of found' 'law of key' 'missing limit' \
+        'missing ops' 'shape of ops' 'law of ops'; do
+        grep -q -x -e "[1-9][0-9]* $told" -e "[1-9][0-9]* line N: $told" "$room/out" && continue
+        fail "refusals of random logs whose records repeat" "none is told: $told"
+        return
+    done
+    pass "refusals of random logs whose records repeat"
+}
+
 compares_all() {
     compares "random documents" "$1" "$2" check,log,cell,matrix,board,race,race check log cell matrix board race
     compares "random logs" "$1" "$3" log log
+    compares "random logs whose records repeat" "$1" "$4" repeats lawful lost refused others
 }
 
 # Compares where the comparison says this instead.
@@ -77,12 +95,18 @@ STUB
 }
 
 test_documents() {
-    compares_all "$1" "$2" "$3"
+    compares_all "$1" "$2" "$3" "$4"
+    has_refused
     differs "another verdict" check 's/^unlawful reading/unlawful precedence/'
     differs "another order of a cell" cell 's/^order: 0 1/order: 1 0/'
     differs "another order of a log" log 's/^order: \([0-9]*\) \([0-9]*\)/order: \2 \1/'
     differs "a line less of a board" board '$d'
     differs "an unsound race" race 's/^origin: sound/origin: task 0, entry 0/'
+    differs "another line of what is lost" repeats 's/^unlawful lost /&1/'
+    differs "a log that is lost told as lawful" repeats 's/^unlawful lost .*/lawful/'
+    differs "what is uncertain as unfinished" repeats 's/ 0 unfinished, 1 uncertain/ 1 unfinished, 0 uncertain/'
+    echo "1 line N: not JSON" >"$room/out"
+    catches "a refusal that no log has" 'none is told: line N: no header' has_refused
     catches "no document" "0 documents of seed 1" compares a 1 0 check
     same=': the same bytes and status'
     catches "fewer documents than are asked for" "not 30 documents" compares_saying "20 documents of seed 1, 20 cell$same" 30 cell
@@ -105,7 +129,7 @@ documents.sh)
         exit 2
     fi
     has_program fsr || { echo "documents: fsr wasn't built" >&2; exit 70; }
-    compares_all "$seed" "$number" "$number"
+    compares_all "$seed" "$number" "$number" "$number"
     echo "$passed passed, $failed failed"
     [ "$failed" = 0 ]
     exit
@@ -116,5 +140,5 @@ if ! command -v python3 >/dev/null 2>&1; then
 elif ! has_program fsr; then
     fail "random documents" "fsr wasn't built"
 else
-    test_documents 1 2000 8000
+    test_documents 1 2000 8000 4000
 fi

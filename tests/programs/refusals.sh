@@ -1,6 +1,7 @@
 # What `fsr` tells of documents at the bounds of each refusal, of orders and of logs. Each line of tests/programs/refusals/COMMAND.txt is
-# what is told, with `\n` for a line's end within it, a bar and the document; documents that are too long for a line are made here. All but
-# races go through the program that has their command alone, too.
+# what is told, with `\n` for a line's end within it, a bar and the document; in order_lines.txt, of logs in lines, `\n` ends a line of the
+# document as well. Documents that are too long for a line are made here. All but races go through the program that has their command alone,
+# too.
 
 # Runs a program with these words on the document in $room/document. Sees that it ends with the wanted status, tells what stands in
 # $room/wanted on the one stream and nothing on the other, and leaves of the document what is beyond the longest and one byte more.
@@ -51,7 +52,10 @@ table_of() {
         '#'*) continue ;;
         esac
         rows=$((rows + 1))
-        printf '%s' "${row#* | }" >"$room/document"
+        case $table in
+        *_lines.txt) printf '%b' "${row#* | }" ;;
+        *) printf '%s' "${row#* | }" ;;
+        esac >"$room/document"
         if ! tells "$1" "${row%% | *}"; then
             missed=$((missed + 1))
             fail "fsr $1, ${row#* | }" "not '${row%% | *}' but status $status and '$(head -c 200 "$room/out" "$room/err")'"
@@ -108,6 +112,13 @@ long_header() {
 # The same behind a byte order mark.
 marked_header() {
     printf '\357\273\277' && long_header "$1"
+}
+
+# A log in lines whose records repeat, with an operation whose line has so many bytes.
+long_operation() {
+    printf '{"kind":"lines","opening":0,"repeats":true}\n{"who":0,"kind":"read","begin":1,"end":2,"record":0,"x":"'
+    copies $(($1 - 59)) x ''
+    printf '"}\n'
 }
 
 # A `cell` document of so many writes, this many reads and so many steps `w`, with a letter after them.
@@ -200,6 +211,7 @@ if ! has_program fsr; then
 else
     table_of check
     table_of order
+    table_of order tests/programs/refusals/order_lines.txt
     table_of play
     table_of race
     sees_parts
@@ -228,6 +240,9 @@ else
     sees_long order "lawful\\nNothing was shown: there is no operation.\\n$counts" long_header 1048576
     sees_long order 'line 1: no header of kind `lines`, and no document: longer than 1048576 bytes' long_header 1048577
     sees_long order 'line 1: no header of kind `lines`, and no document: not JSON' marked_header 40
+    counts='1 operations, 0 unfinished, 0 uncertain, 1 records; no last line `done`'
+    sees_long order "lawful\\n$counts" long_operation 1048576
+    sees_long order 'line 2: longer than 1048576 bytes' long_operation 1048577
     sees_long play 'schedule: no operation left at step 50000' long_cell 10000 0 100000
     sees_long play 'document: range of reads' long_cell 10000 1 100001
     sees_long play 'document: range of steps' long_cell 10000 0 100001
