@@ -13,7 +13,8 @@ use Rattle.fsr_play_answers.specs.Play.{IsPlayAnswer}
 use Rattle.fsr_answers.specs.RaceAnswers.{IsRaceAnswer}
 
 -- the answer of a command to the bytes of a document; a race is run over a board of this family
-abbrev pub IsFsrAnswer : {F S T : Type 0} → FamilyWords F (Posted Band) S T → Want → List ℕ → Result Answer Fault → Type 0
+abbrev pub IsFsrAnswer : {F S T : Type 0} → FamilyWords F (Posted Band) S T → Want → List ℕ →
+    Result Answer Fault → Type 0
 IsFsrAnswer family want.Check bytes reply = IsCheckAnswer bytes reply
 IsFsrAnswer family (want.Order show) bytes reply = IsOrderAnswer show bytes reply
 IsFsrAnswer family want.Play bytes reply = IsPlayAnswer bytes reply

@@ -34,7 +34,8 @@ module _ {F S T : Type 0} (family : FamilyWords F (Posted Band) S T) where
   -- the answer to the scripts of a race: the text of what a race tells that nothing stops
   abbrev pub AnswersRace : RaceDocument → Result Answer Fault → Type 0
   AnswersRace document (Ok answer) =
-      (r : Report) × IsRace family (λ task call. Unit {0}) (λ task call. ⊥) document.opening document.limit document.scripts r
+      (r : Report)
+      × IsRace family (λ task call. Unit {0}) (λ task call. ⊥) document.opening document.limit document.scripts r
       × (answer ≡ printed r)
   AnswersRace document (Err fault) = ⊥
 

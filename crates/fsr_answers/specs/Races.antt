@@ -1,5 +1,6 @@
 -- What a race tells: its scripts are run as tasks over a running board of any family (this project's own).
-use Rattle.std.specs.Prelude.{◌≡◌, Bool, true, false, ◌&&◌, nat_eq, ℕ, ◌+◌, List, length, map, count_by, slice_get, Option, Some, None}
+use Rattle.std.specs.Prelude.{◌≡◌, Bool, true, false, ◌&&◌, nat_eq, ℕ, ◌+◌, List, length, map, count_by}
+use Rattle.std.specs.Prelude.{slice_get, Option, Some, None}
 use Rattle.history_core.specs.declared.band.Band.{Band}
 use Rattle.history_core.specs.declared.wish.Wish.{Wish}
 use Rattle.history_core.specs.declared.wish.Wish.TheVariants.{Write, Read}
@@ -53,7 +54,8 @@ replies are log = count_by (λ entry. are entry.reply) log
 
 -- how many writes, reads and refused writes a log has
 abbrev pub counts_of : List (Entry Band) → Counts
-counts_of log = record { writes = replies is_written log; reads = replies is_seen log; refused = replies is_refused log }
+counts_of log =
+    record { writes = replies is_written log; reads = replies is_seen log; refused = replies is_refused log }
 
 -- the first entry without its origin, by task and call
 abbrev pub broken_at : Origin → Option (ℕ × ℕ)
@@ -67,12 +69,12 @@ module _ {F S T : Type 0} (family : FamilyWords F (Posted Band) S T) where
   abbrev pub counts_in : List (Lane Band F S T) → List Counts
   counts_in lanes = map (λ lane. counts_of lane.log.items) lanes
 
-  -- *Race*: a new board has a lane for each script. Each lane ran: the board calls that were made stand in its log, and the log is
-  -- whole, or the task may stop before the next call. The entries tell of calls that are atomic by their intervals, after which the
-  -- register holds the last record, the greatest of all. The logs have one order, and each entry is sound. What is told are the counts of
-  -- the logs, and that no entry is without its origin.
-  pub record IsRace (may_call may_stop : ℕ → ℕ → Type 0) (opening : Band) (limit : ℕ) (scripts : List (List (Wish Band)))
-      (report : Report) : Type 0 where
+  -- *Race*: a new board has a lane for each script. Each lane ran: the board calls that were made stand in its log, and
+  -- the log is whole, or the task may stop before the next call. The entries tell of calls that are atomic by their
+  -- intervals, after which the register holds the last record, the greatest of all. The logs have one order, and each
+  -- entry is sound. What is told are the counts of the logs, and that no entry is without its origin.
+  pub record IsRace (may_call may_stop : ℕ → ℕ → Type 0) (opening : Band) (limit : ℕ)
+      (scripts : List (List (Wish Band))) (report : Report) : Type 0 where
     pub board : Board Band F S T
     pub passes : List (Pass Band F S T)
     pub lanes : List (Lane Band F S T)

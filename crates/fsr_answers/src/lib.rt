@@ -1,5 +1,5 @@
-//! What `fsr` answers to each of its commands, and its run over its streams. A race runs each script by a task of its own over one
-//! board, whatever family the board stands on.
+//! What `fsr` answers to each of its commands, and its run over its streams. A race runs each script by a task of its
+//! own over one board, whatever family the board stands on.
 #![tactic(auto)]
 
 mod program;

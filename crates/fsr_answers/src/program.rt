@@ -38,8 +38,8 @@ where
     }
 }
 
-/// Takes the input of a command: a log in lines to its end, and any other document as far as a run reads one. Or tells why it was not read
-/// and gives the status that the run ends with.
+/// Takes the input of a command: a log in lines to its end, and any other document as far as a run reads one. Or tells
+/// why it was not read and gives the status that the run ends with.
 fn take_input<I: Source, E: Sink>(
     alloc: Global,
     program: &Program,
@@ -59,9 +59,9 @@ fn take_input<I: Source, E: Sink>(
     }
 }
 
-/// Runs a command over the streams of `fsr`, and gives the status that the run ends with. The text goes to `out`, and what is to be told
-/// besides goes to `faults`, whose failures change no status. (It is no `Command`: what `answer` sends to a thread rests on a bound that is
-/// known of this thread alone.)
+/// Runs a command over the streams of `fsr`, and gives the status that the run ends with. The text goes to `out`, and
+/// what is to be told besides goes to `faults`, whose failures change no status. (It is no `Command`: what `answer`
+/// sends to a thread rests on a bound that is known of this thread alone.)
 pub fn run<F: SharedFamily<Posted<Band>>, R: Threads + Sync, I: Source, O: Sink, E: Sink>(
     rt: &R,
     alloc: Global,

@@ -3,7 +3,8 @@ ghost use Rattle.std.specs.Prelude.{◌≡◌, ℕ, IfErr, IfOk, map};
 ghost use Rattle.read_schedule.specs.Players.{CanRace};
 ghost use Rattle.program_runs.specs.Answers.{GivesReply};
 ghost use Rattle.fsr_answers.specs.RaceAnswers.{AnswersRace, IsRaceAnswer, exit_of};
-ghost use Rattle.fsr_answers.specs.Races.{CountsAll, IsRace, broken_at, counts_of, is_refused, is_seen, is_written, replies};
+ghost use Rattle.fsr_answers.specs.Races.{CountsAll, IsRace, broken_at, counts_of, is_refused};
+ghost use Rattle.fsr_answers.specs.Races.{is_seen, is_written, replies};
 ghost use Rattle.board_tasks.specs.Tasks.{Permitted};
 ghost use Rattle.read_document.specs.Refusals.{Gives as Reads};
 ghost use Rattle.read_schedule.specs.Document.{race_of};
@@ -24,8 +25,8 @@ use std::alloc::{AllocError, Global};
 use std::mem::forget;
 use std::thread::Threads;
 
-/// The answer of the command `race` to the bytes of a document: what a race of its scripts tells, whose gate lets every call through,
-/// over a board of the family that the caller names.
+/// The answer of the command `race` to the bytes of a document: what a race of its scripts tells, whose gate lets every
+/// call through, over a board of the family that the caller names.
 pub fn run_race<R: Threads + Sync, F: SharedFamily<Posted<Band>>>(
     rt: &R,
     alloc: Global,
@@ -87,8 +88,8 @@ fn exit_of(report: &Report) -> Exit
     }
 }
 
-/// Runs each script as a task of its own, in threads, over a board of this family, ends the board, and tells what the logs say: they
-/// tell of calls that are atomic by their intervals, so that no origin is broken.
+/// Runs each script as a task of its own, in threads, over a board of this family, ends the board, and tells what the
+/// logs say: they tell of calls that are atomic by their intervals, so that no origin is broken.
 pub fn race<R: Threads + Sync, G: Gate + Sync, F: SharedFamily<Posted<Band>>>(
     rt: &R,
     alloc: Global,
@@ -101,8 +102,9 @@ where
     F::Seat: Send,
     F::Receipt: Send,
     requires { CanRace opening limit scripts }
-    ensures report { IfOk result (IsRace ⟦<F as Family<Posted<Band>>>⟧ (Permitted G.is_for gate.now) (G.may_stop gate.now)
-        opening limit scripts) }
+    ensures report { IfOk result
+        (IsRace ⟦<F as Family<Posted<Band>>>⟧ (Permitted G.is_for gate.now)
+        (G.may_stop gate.now) opening limit scripts) }
     ensures counted { ((task call : ℕ) → G.may_stop gate.now task call → ⊥) → IfOk result (CountsAll scripts) }
     ensures refused { IfErr result (λ e. e ≡ NoMemory) }
 {

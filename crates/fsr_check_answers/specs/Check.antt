@@ -1,4 +1,5 @@
--- The answer to a document of kind `check`: the verdict on its order with its status, or the fault (this project's own).
+-- The answer to a document of kind `check`: the verdict on its order with its status, or
+-- the fault (this project's own).
 use Rattle.std.specs.Prelude.{◌≡◌, ℕ, List, Result, Ok, Err}
 use Rattle.program_streams.specs.Exits.{status_of}
 use Rattle.program_streams.specs.declared.exit.Exit.{Exit}

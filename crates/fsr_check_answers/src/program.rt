@@ -31,8 +31,8 @@ impl Command for Check {
     }
 }
 
-/// Runs `fsr check` over its streams, and gives the status that it ends with. The text goes to `out`, and what is to be told besides
-/// goes to `faults`, whose failures change no status.
+/// Runs `fsr check` over its streams, and gives the status that it ends with. The text goes to `out`, and what is to be
+/// told besides goes to `faults`, whose failures change no status.
 pub fn run<I: Source, O: Sink, E: Sink>(
     alloc: Global,
     input: &mut I,

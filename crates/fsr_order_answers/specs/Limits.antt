@@ -1,4 +1,5 @@
--- How many writes can stand before the first refused write of a log (this project's own, over the verdict on an order under a limit).
+-- How many writes can stand before the first refused write of a log (this project's own, over the
+-- verdict on an order under a limit).
 use Rattle.std.specs.Prelude.{◌≡◌, ◌⊎◌, ◌<◌, ◌+◌, ℕ, Bool, true, false, List}
 use Rattle.history_core.specs.declared.history.Op.{Op}
 use Rattle.history_core.specs.declared.history.Verdict.TheVariants.{Lawful as LawfulOrder}

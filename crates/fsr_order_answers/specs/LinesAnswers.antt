@@ -20,8 +20,9 @@ status_of (Unlawful reason) = 1
 abbrev pub printed : Bool → List ℕ → LinesLog → ℕ → LogAnswer → Answer
 printed order bytes read most found = record { text = lines_text order bytes read most found; status = status_of found }
 
--- what was found of the whole log that the bytes stand for: a lawful order of it, or that there is none, with a reason, whose operations
--- are kept; and of a log that is unlawful by its limit how many writes can stand before the first refused write
+-- what was found of the whole log that the bytes stand for: a lawful order of it, or that there is none, with a
+-- reason, whose operations are kept; and of a log that is unlawful by its limit how many writes can stand
+-- before the first refused write
 pub record Found (order : Bool) (bytes : List ℕ) (answer : Answer) : Type 0 where
   pub log : List (Op ℕ)
   pub read : LinesLog

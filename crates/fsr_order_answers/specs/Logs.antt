@@ -1,4 +1,5 @@
--- The answer to a document of kind `log`: a lawful order of its operations, or that there is none, or the fault (this project's own).
+-- The answer to a document of kind `log`: a lawful order of its operations, or that there is none, or
+-- the fault (this project's own).
 use Rattle.std.specs.Prelude.{◌≡◌, ℕ, List, Result, Ok, Err}
 use Rattle.read_document.specs.declared.refusal.DocError.{DocError}
 use Rattle.read_document.specs.declared.refusal.DocError.TheVariants as doc

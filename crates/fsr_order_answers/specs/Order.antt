@@ -10,7 +10,8 @@ use Rattle.fsr_order_answers.specs.LinesAnswers.{IsLinesAnswer}
 use Rattle.fsr_order_answers.specs.SmallAnswers.{IsSmallAnswer}
 use Rattle.fsr_order_answers.specs.Logs.{IsLogAnswer}
 
--- the answer to a log in lines: a small log if that is asked for, else the verdict, with the writes in order if those are
+-- the answer to a log in lines: a small log if that is asked for, else the verdict, with the
+-- writes in order if those are
 abbrev pub IsAnswerIfSmall : Bool → Bool → List ℕ → Result Answer Fault → Type 0
 IsAnswerIfSmall true order bytes reply = IsSmallAnswer bytes reply
 IsAnswerIfSmall false order bytes reply = IsLinesAnswer order bytes reply

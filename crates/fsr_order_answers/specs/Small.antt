@@ -1,6 +1,8 @@
--- A small log, made of a larger one that has no lawful order: of the kept operations those that the reason names, with the writes of their
--- records. It is printed as a document of kind `log`, in which the record with the number n is [n,n,n] (this project's own).
-use Rattle.std.specs.Prelude.{ℕ, ◌++◌, ◌==◌, zero, suc, List, [], ◌∷◌, codes, length, if◌then◌else◌, slice_get, unwrap_or, Option, None}
+-- A small log, made of a larger one that has no lawful order: of the kept operations those that the reason names, with
+-- the writes of their records. It is printed as a document of kind `log`, in which the record with the number n is
+-- [n,n,n] (this project's own).
+use Rattle.std.specs.Prelude.{ℕ, ◌++◌, ◌==◌, zero, suc, List, [], ◌∷◌, codes, length, if◌then◌else◌}
+use Rattle.std.specs.Prelude.{slice_get, unwrap_or, Option, None}
 use Rattle.std.specs.Prelude.{Some}
 use Rattle.std.specs.Fmt.{decimal}
 use Rattle.std.specs.List.{flat_map, position}
@@ -76,8 +78,8 @@ ops_text ops (first ∷ rest) = op_text ops first ++ flat_map (next_text ops) re
 
 abbrev pub small_document : ℕ → List (Op ℕ) → List ℕ
 small_document limit ops =
-    number_text (codes "{\"kind\":\"log\",\"opening\":[0,0,0],\"limit\":") limit ++ codes ",\"ops\":[\n" ++ ops_text ops ops
-    ++ codes "]}\n"
+    number_text (codes "{\"kind\":\"log\",\"opening\":[0,0,0],\"limit\":") limit ++ codes ",\"ops\":[\n"
+    ++ ops_text ops ops ++ codes "]}\n"
 
 -- the small log of an unlawful one; of a lawful one nothing
 abbrev pub small_text : Thinned → LogAnswer → List ℕ

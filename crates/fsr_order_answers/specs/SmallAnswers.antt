@@ -15,8 +15,8 @@ use Rattle.fsr_order_answers.specs.Small.{small_text}
 abbrev pub printed : LinesLog → LogAnswer → Answer
 printed read found = record { text = small_text read.thinned found; status = status_of found }
 
--- a small log by what was found of the whole log that the bytes stand for: a lawful order of it, or that there is none, with a reason,
--- whose operations are kept
+-- a small log by what was found of the whole log that the bytes stand for: a lawful order of it, or that there is none,
+-- with a reason, whose operations are kept
 pub record FoundSmall (bytes : List ℕ) (answer : Answer) : Type 0 where
   pub log : List (Op ℕ)
   pub read : LinesLog

@@ -14,18 +14,20 @@ abbrev pub end_text : Bool → List ℕ
 end_text true = codes "\n"
 end_text false = codes "; no last line `done`\n"
 
--- how many operations there are and how many of them are unfinished, how many records and how many of them were read, and whether the
--- end is there
+-- how many operations there are and how many of them are unfinished, how many records and how many of them were read,
+-- and whether the end is there
 abbrev pub counts_text : LinesLog → List ℕ
 counts_text log =
     count_text log.ops (codes " operations, ") ++ count_text log.unfinished (codes " unfinished, ")
     ++ count_text log.records (codes " records, ") ++ count_text log.read (codes " of them read") ++ end_text log.ended
 
--- how little a lawful log shows: nothing if it has no operation, and little if less than one record of a hundred was read
+-- how little a lawful log shows: nothing if it has no operation, and little if less than one
+-- record of a hundred was read
 abbrev pub little_text : ℕ → ℕ → ℕ → List ℕ
 little_text ops records read =
     if nat_eq ops 0 then codes "Nothing was shown: there is no operation.\n"
-    else (if nat_lt (read * 100) records then codes "Little was shown: less than 1 % of the records were read.\n" else [])
+    else (if nat_lt (read * 100) records
+    then codes "Little was shown: less than 1 % of the records were read.\n" else [])
 
 abbrev pub shown_text : LinesLog → LogAnswer → List ℕ
 shown_text log (Lawful writes) = little_text log.ops log.records log.read

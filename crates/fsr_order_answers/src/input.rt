@@ -12,8 +12,8 @@ use std::alloc::Global;
 /// The greatest number of bytes of a document that isn't in lines.
 const MAX_DOCUMENT: usize = 1_048_576;
 
-/// Takes a log in lines to its end, and any other document as far as a run reads one; or tells why it was not read and gives the status
-/// that the run ends with.
+/// Takes a log in lines to its end, and any other document as far as a run reads one; or tells why it was not read and
+/// gives the status that the run ends with.
 pub fn take_log<I: Source, E: Sink>(
     alloc: Global,
     program: &Program,

@@ -1,5 +1,5 @@
-//! What `fsr` answers to a log, in lines or as a document of kind `log`: a lawful order of it, or the reason why there is none; and the
-//! small log that shows the reason. Of a log whose records repeat it is the verdict of the sweep.
+//! What `fsr` answers to a log, in lines or as a document of kind `log`: a lawful order of it, or the reason why there
+//! is none; and the small log that shows the reason. Of a log whose records repeat it is the verdict of the sweep.
 #![tactic(auto)]
 
 mod answer;

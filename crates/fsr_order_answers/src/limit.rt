@@ -37,7 +37,8 @@ fn counted_by(alloc: Global, thinned: &Thinned, reason: Reason) -> Result<u64, A
     }
 }
 
-/// The greatest limit under which an order is lawful, where none is under this one. It searches under some limits between.
+/// The greatest limit under which an order is lawful, where none is under this one. It
+/// searches under some limits between.
 fn most(alloc: Global, thinned: &Thinned, limit: u64) -> Result<u64, AllocError>
     ensures { IfOk result (λ most. (own : ℕ) (log : List (Op ℕ)) → IsThinnedLog own log thinned.now →
         IsLawfulUnder log limit false → 0 < limit → IsMost log most) }
@@ -55,8 +56,8 @@ fn most(alloc: Global, thinned: &Thinned, limit: u64) -> Result<u64, AllocError>
     Ok(low)
 }
 
-/// A limit between two. The first ones are small, as few writes stand before a refused write that comes too early. With each one the span
-/// is halved, or its lower end rises by half of itself, so that there are few.
+/// A limit between two. The first ones are small, as few writes stand before a refused write that comes too early. With
+/// each one the span is halved, or its lower end rises by half of itself, so that there are few.
 fn middle(low: u64, high: u64) -> u64
     requires { 1 < high - low }
     ensures above { low < result }
@@ -68,7 +69,8 @@ fn middle(low: u64, high: u64) -> u64
 
 /// Whether an order of the whole log is lawful under another limit.
 fn is_lawful_under(alloc: Global, thinned: &Thinned, limit: u64) -> Result<bool, AllocError>
-    ensures { IfOk result (λ is. (own : ℕ) (log : List (Op ℕ)) → IsThinnedLog own log thinned.now → IsLawfulUnder log limit is) }
+    ensures { IfOk result (λ is. (own : ℕ) (log : List (Op ℕ)) → IsThinnedLog own log thinned.now →
+        IsLawfulUnder log limit is) }
 {
     let other = with_limit(alloc, thinned, limit)?;
     match search_thinned(alloc, &other) {
@@ -88,7 +90,8 @@ fn is_lawful(found: &LogAnswer) -> bool
 
 /// The same operations under another limit.
 fn with_limit(alloc: Global, thinned: &Thinned, limit: u64) -> Result<Thinned, AllocError>
-    ensures { IfOk result (λ other. (own : ℕ) (log : List (Op ℕ)) → IsThinnedLog own log thinned.now → IsThinnedLog limit log other) }
+    ensures { IfOk result (λ other. (own : ℕ) (log : List (Op ℕ)) → IsThinnedLog own log thinned.now →
+        IsThinnedLog limit log other) }
 {
     let mut terms = Vec::new(alloc);
     terms.push(Term { first: 0, limit })?;

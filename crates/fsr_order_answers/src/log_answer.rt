@@ -12,8 +12,8 @@ use read_log::{log_document, search_log};
 use std::alloc::{AllocError, Global};
 use std::mem::forget;
 
-/// The answer of the command `order` to the bytes of a document of kind `log`: a lawful order of it, or the reason why there is none. A
-/// document that has no kind or another one is refused.
+/// The answer of the command `order` to the bytes of a document of kind `log`: a lawful order of it, or the reason why
+/// there is none. A document that has no kind or another one is refused.
 pub fn order_document(alloc: Global, bytes: &[u8]) -> Result<Answer, Fault>
     ensures { GivesReply (IsLogAnswer bytes.now) result }
 {
@@ -34,8 +34,8 @@ fn fault_of(why: DocError) -> Fault
     }
 }
 
-/// The log that the bytes stand for. The JSON value that they are is left unfreed: a run reads one document and ends, and the value
-/// goes with the process.
+/// The log that the bytes stand for. The JSON value that they are is left unfreed: a run reads one document and ends,
+/// and the value goes with the process.
 #[tactic(auto, unfolding(read_log::specs::Log::log_of))]
 fn read(alloc: Global, bytes: &[u8]) -> Result<History<Band>, DocError>
     ensures log { Reads (λ h. h) result (log_of bytes.now) }

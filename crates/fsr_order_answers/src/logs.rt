@@ -12,9 +12,9 @@ use program_runs::{Answer, Fault, Show};
 use read_document::are_lines;
 use std::alloc::Global;
 
-/// The answer of the command `order` to the bytes of a document: a lawful order of its log, or the reason why there is none. A log in
-/// lines is told by its first line, and one whose records repeat too. For any other one in lines there is a choice of
-/// what is printed.
+/// The answer of the command `order` to the bytes of a document: a lawful order of its log, or the reason why there is
+/// none. A log in lines is told by its first line, and one whose records repeat too. For any other one in lines there
+/// is a choice of what is printed.
 pub fn order(alloc: Global, show: Show, bytes: &[u8]) -> Result<Answer, Fault>
     ensures { GivesReply (IsOrderAnswer show bytes.now) result }
 {

@@ -9,8 +9,8 @@ use history_search::find_order;
 use history_thinning::answer_of;
 use std::alloc::Global;
 
-/// What a search of the whole log would answer, from few of its operations, which has all that a reason names. It takes n log n steps for n
-/// operations that were kept.
+/// What a search of the whole log would answer, from few of its operations, which has all that a reason names. It takes
+/// n log n steps for n operations that were kept.
 pub(crate) fn search_thinned(alloc: Global, thinned: &Thinned) -> Result<LogAnswer, SearchError>
     ensures { MatchResult result
         (λ answer. (limit : ℕ) (log : List (Op ℕ)) → IsThinnedLog limit log thinned.now →

@@ -2,8 +2,10 @@
 ghost use Rattle.std.specs.Prelude.{◌≡◌, ◌++◌, ◌==◌, ℕ, IfOk, OnOk, length};
 ghost use Rattle.std.specs.List.{flat_map, position};
 ghost use Rattle.history_core.specs.declared.history.Op.{Op};
-ghost use Rattle.fsr_order_answers.specs.Small.{band_text, begin_text, small_document, end_text, kind_text, named_of, next_text, one_named};
-ghost use Rattle.fsr_order_answers.specs.Small.{one_or_none, op_text, ops_text, outcome_text, record_text, small_ops, small_text, task_of};
+ghost use Rattle.fsr_order_answers.specs.Small.{band_text, begin_text, small_document, end_text, kind_text};
+ghost use Rattle.fsr_order_answers.specs.Small.{named_of, next_text, one_named};
+ghost use Rattle.fsr_order_answers.specs.Small.{one_or_none, op_text, ops_text, outcome_text, record_text};
+ghost use Rattle.fsr_order_answers.specs.Small.{small_ops, small_text, task_of};
 
 use history_core::{Kind, LogAnswer, Op, Reason, Thinned};
 use print_reasons::{in_kept, is_named, places_of, push_u64, push_words};

@@ -25,9 +25,12 @@ use Rattle.read_schedule.specs.declared.document.ScheduleDocument.TheVariants.{C
 abbrev pub printed : Report → Answer
 printed r = record { text = text_of r; status = status_of Sound }
 
--- the answer to a schedule with these spans: the text of a report that is made as it should be, or the first step that has no operation
-abbrev pub AnswersTerms : {Made : Type 0} → List (Span Band) → (Made → Type 0) → (Made → Report) → Result Answer Fault → Type 0
-AnswersTerms {Made} spans IsMade told (Ok answer) = (r : Made) × HasOperations spans × IsMade r × (answer ≡ printed (told r))
+-- the answer to a schedule with these spans: the text of a report that is made as it should be, or the
+-- first step that has no operation
+abbrev pub AnswersTerms : {Made : Type 0} → List (Span Band) → (Made → Type 0) → (Made → Report) →
+    Result Answer Fault → Type 0
+AnswersTerms {Made} spans IsMade told (Ok answer) = (r : Made) × HasOperations spans × IsMade r
+    × (answer ≡ printed (told r))
 AnswersTerms spans IsMade told (Err (fault.Document refusal)) = ⊥
 AnswersTerms spans IsMade told (Err (fault.History why)) = ⊥
 AnswersTerms spans IsMade told (Err (fault.Lines why)) = ⊥
@@ -38,11 +41,13 @@ AnswersTerms spans IsMade told (Err (fault.Undecided line)) = ⊥
 
 -- the answer to the schedule of a matrix; titled, where its terms are told
 abbrev pub AnswersMatrix : MatrixSchedule Band → Bool → Result Answer Fault → Type 0
-AnswersMatrix schedule titled reply = AnswersTerms (spans_of schedule.terms) (IsMatrixReport schedule) (λ r. report.Matrix r titled) reply
+AnswersMatrix schedule titled reply = AnswersTerms (spans_of schedule.terms) (IsMatrixReport schedule)
+    (λ r. report.Matrix r titled) reply
 
 -- the answer to the schedule of a composed board
 abbrev pub AnswersBoard : BoardSchedule Band → Bool → Result Answer Fault → Type 0
-AnswersBoard schedule titled reply = AnswersTerms (board_spans schedule.terms) (IsBoardReport schedule) (λ r. report.Board r titled) reply
+AnswersBoard schedule titled reply = AnswersTerms (board_spans schedule.terms) (IsBoardReport schedule)
+    (λ r. report.Board r titled) reply
 
 -- the answer to what a document of a schedule stands for
 abbrev pub AnswersSchedule : ScheduleDocument → Result Answer Fault → Type 0

@@ -1,5 +1,5 @@
-//! What `fsr` answers to a schedule: the report of its run, played step by step; and the run of the program that has the command `play`
-//! alone.
+//! What `fsr` answers to a schedule: the report of its run, played step by step; and the run of the program that
+//! has the command `play` alone.
 #![tactic(auto)]
 
 mod cell_answer;

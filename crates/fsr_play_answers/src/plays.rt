@@ -31,8 +31,8 @@ pub fn play(alloc: Global, bytes: &[u8]) -> Result<Answer, Fault>
     }
 }
 
-/// The schedule that the bytes stand for. The JSON value that they are is left unfreed: a run reads one document and ends, and
-/// the value goes with the process.
+/// The schedule that the bytes stand for. The JSON value that they are is left unfreed: a run reads one document and
+/// ends, and the value goes with the process.
 #[tactic(auto, unfolding(read_schedule::specs::Document::schedule_of))]
 fn read(alloc: Global, bytes: &[u8]) -> Result<ScheduleDocument, DocError>
     ensures document { Reads (λ d. d) result (schedule_of bytes.now) }

@@ -1,5 +1,6 @@
 -- Why lines stand for no log: the first line at fault, and why. The lines before it are all right (this project's own).
-use Rattle.std.specs.Prelude.{◌≡◌, ℕ, ◌+◌, ◌⊎◌, true, false, List, [], ◌∷◌, ◌++◌, length, Bool, slice_get, Some, Ok, Err}
+use Rattle.std.specs.Prelude.{◌≡◌, ℕ, ◌+◌, ◌⊎◌, true, false, List, [], ◌∷◌, ◌++◌, length}
+use Rattle.std.specs.Prelude.{Bool, slice_get, Some, Ok, Err}
 use Rattle.history_core.specs.declared.history.Op.{Op}
 use Rattle.history_core.specs.Searches.{WritesOnce}
 use Rattle.history_core.specs.declared.reason.SearchError.{SearchError}
@@ -11,7 +12,8 @@ use Rattle.read_document.specs.declared.refusal.DocError.TheVariants.{Law, NoMem
 use Rattle.read_document.specs.declared.key.Key.TheVariants.{End}
 use Rattle.program_runs.specs.declared.fault.Fault.{Fault}
 use Rattle.program_runs.specs.declared.fault.Fault.TheVariants as fault
-use Rattle.program_runs.specs.declared.fault.LinesFault.TheVariants.{Refused, Backwards, Overlaps, WritesOpening, WritesTwice}
+use Rattle.program_runs.specs.declared.fault.LinesFault.TheVariants.{Refused, Backwards, Overlaps}
+use Rattle.program_runs.specs.declared.fault.LinesFault.TheVariants.{WritesOpening, WritesTwice}
 use Rattle.read_line.specs.Numberings.{AreDistinct}
 use Rattle.read_document.specs.Splits.{lines_of}
 use Rattle.read_line.specs.Places.{line_at}
@@ -46,7 +48,8 @@ told_of (search_error.WritesOpening place) = fault.Lines (WritesOpening (line_at
 told_of (search_error.WritesTwice first second) = fault.Lines (WritesTwice (line_at first) (line_at second))
 
 -- with the operation of this line the log can't be searched: it writes a record that another one writes, or the opening
-pub record IsRepeat (opening : List ℕ) (rule : LineRule) (lines : List (List ℕ)) (line : List ℕ) (f : Fault) : Type 0 where
+pub record IsRepeat (opening : List ℕ) (rule : LineRule) (lines : List (List ℕ)) (line : List ℕ)
+    (f : Fault) : Type 0 where
   pub records : List (List ℕ)
   pub log : List (Op ℕ)
   pub error : SearchError
@@ -59,12 +62,14 @@ pub record IsRepeat (opening : List ℕ) (rule : LineRule) (lines : List (List �
 -- a line behind these is refused
 abbrev pub IsRefusedLine : LineRule → List (List ℕ) → List ℕ → Bool → Fault → Type 0
 IsRefusedLine rule lines line last f =
-    (why : DocError) × (judged_line rule (length lines) last line ≡ Err why) × (f ≡ refused_at (line_at (length lines)) why)
+    (why : DocError) × (judged_line rule (length lines) last line ≡ Err why)
+    × (f ≡ refused_at (line_at (length lines)) why)
 
 -- the operation of the line overlaps one of its task
 abbrev pub IsOverlapped : LineRule → List (List ℕ) → List ℕ → Fault → Type 0
 IsOverlapped rule lines line f =
-    (who : ℕ) × (first : ℕ) × (second : ℕ) × (f ≡ fault.Lines (Overlaps who first second)) × IsOverlap rule lines line who first second
+    (who : ℕ) × (first : ℕ) × (second : ℕ) × (f ≡ fault.Lines (Overlaps who first second))
+    × IsOverlap rule lines line who first second
 
 -- the fault of a line behind these, unless memory ran out
 abbrev pub IsLineFault : List ℕ → LineRule → List (List ℕ) → List ℕ → Bool → Fault → Type 0
@@ -118,4 +123,5 @@ pub record IsLaterFault (bytes : List ℕ) (f : Fault) : Type 0 where
 -- the fault of a text, unless memory ran out
 abbrev pub IsLinesFault : List ℕ → Fault → Type 0
 IsLinesFault bytes f =
-    (f ≡ fault.NoMemory) ⊎ (((text_of bytes ≡ []) × (f ≡ refused_at 1 NotJson)) ⊎ (IsHeaderFault bytes f ⊎ IsLaterFault bytes f))
+    (f ≡ fault.NoMemory)
+    ⊎ (((text_of bytes ≡ []) × (f ≡ refused_at 1 NotJson)) ⊎ (IsHeaderFault bytes f ⊎ IsLaterFault bytes f))

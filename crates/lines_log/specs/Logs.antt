@@ -1,5 +1,6 @@
 -- The log that lines stand for: an operation a line, and a number for each record (this project's own).
-use Rattle.std.specs.Prelude.{◌≡◌, ℕ, ◌-◌, ◌==◌, List, [], ◌∷◌, ◌++◌, length, take, Bool, true, false, ◌||◌, not, if◌then◌else◌, slice_get}
+use Rattle.std.specs.Prelude.{◌≡◌, ℕ, ◌-◌, ◌==◌, List, [], ◌∷◌, ◌++◌, length, take, Bool, true, false, ◌||◌}
+use Rattle.std.specs.Prelude.{not, if◌then◌else◌, slice_get}
 use Rattle.std.specs.Prelude.{Option, None, Some, is_none, is_some, unwrap_or, Result, Ok, Err}
 use Rattle.std.specs.List.{count_by}
 use Rattle.std.specs.Str.{bytes_eq}
@@ -48,13 +49,16 @@ is_refused Write = false
 is_refused Read = false
 is_refused Refused = true
 
--- What a line is behind so many operations: an operation, or the end of the log. All operations have one key, or none. A write is refused
--- only where the header has a limit, and the end stands on the last line, with the number of the operations.
+-- What a line is behind so many operations: an operation, or the end of the log. All operations have one key,
+-- or none. A write is refused only where the header has a limit, and the end stands on the last line, with
+-- the number of the operations.
 abbrev pub judged : LineRule → ℕ → Bool → LineEntry → Result (Option (Op (List ℕ))) DocError
 judged rule count last (operation o) =
-    if same_key rule.key o.key then (if rule.limited || not (is_refused o.op.kind) then Ok (Some o.op) else Err (Missing key.Limit))
+    if same_key rule.key o.key
+    then (if rule.limited || not (is_refused o.op.kind) then Ok (Some o.op) else Err (Missing key.Limit))
     else Err (Law key.Key)
-judged rule count last (done ops) = if last then (if ops == count then Ok None else Err (Law key.Ops)) else Err (Shape key.Kind)
+judged rule count last (done ops) = if last then (if ops == count then Ok None else Err (Law key.Ops))
+    else Err (Shape key.Kind)
 
 abbrev pub judged_line : LineRule → ℕ → Bool → List ℕ → Result (Option (Op (List ℕ))) DocError
 judged_line rule count last line = entry_of line >>= judged rule count last
@@ -78,19 +82,22 @@ pub record IsNumberedOp (records : List (List ℕ)) (said : Op (List ℕ)) (op :
 pub record AreLines (rule : LineRule) (lines records : List (List ℕ)) (log : List (Op ℕ)) : Type 0 where
   pub long : length log ≡ length lines
   pub each : (p : ℕ) (line : List ℕ) (op : Op ℕ) → slice_get lines p ≡ Some line → slice_get log p ≡ Some op →
-      (said : Op (List ℕ)) × (last : Bool) × (judged_line rule p last line ≡ Ok (Some said)) × IsNumberedOp records said op
+      (said : Op (List ℕ)) × (last : Bool) × (judged_line rule p last line ≡ Ok (Some said))
+      × IsNumberedOp records said op
 
 -- the lines behind the header are those of the operations, and the end if it is there
 abbrev pub AreAll : LineRule → Bool → List (List ℕ) → List (List ℕ) → Type 0
 AreAll rule false body lines = body ≡ lines
-AreAll rule true body lines = (end : List ℕ) × (body ≡ lines ++ end ∷ []) × (judged_line rule (length lines) true end ≡ Ok None)
+AreAll rule true body lines = (end : List ℕ) × (body ≡ lines ++ end ∷ [])
+    × (judged_line rule (length lines) true end ≡ Ok None)
 
--- The text of a log: white space behind its last line is left out, unless there is too much of it. Then it stays, as lines that are none.
+-- The text of a log: white space behind its last line is left out, unless there is too much of it. Then it
+-- stays, as lines that are none.
 abbrev pub text_of : List ℕ → List ℕ
 text_of bytes = if ends_in_space bytes then bytes else take (length bytes - space_behind bytes) bytes
 
--- The log that bytes stand for: each record has its place among these for its number, and the opening is the first. Of two operations of
--- one task the first has ended before the second begins.
+-- The log that bytes stand for: each record has its place among these for its number, and the opening is the first. Of
+-- two operations of one task the first has ended before the second begins.
 pub record IsLog (bytes : List ℕ) (head : Head) (records : List (List ℕ)) (log : List (Op ℕ)) : Type 0 where
   pub header : List ℕ
   pub body : List (List ℕ)

@@ -1,5 +1,5 @@
-//! The reader of a log in lines: from bytes to the few operations that are kept of it, whose records are numbers, or the first line at
-//! fault.
+//! The reader of a log in lines: from bytes to the few operations that are kept of it, whose records are
+//! numbers, or the first line at fault.
 #![tactic(auto)]
 
 mod faults;

@@ -9,7 +9,8 @@ use read_document::{DocError, Key};
 use read_line::{LineOp, LogLine, read_line};
 use std::alloc::Global;
 
-/// The operation of a line that stands behind so many operations, or none where it ends the log. This is the key of all of them.
+/// The operation of a line that stands behind so many operations, or none where it ends the log.
+/// This is the key of all of them.
 pub(crate) fn read_op(
     alloc: Global,
     limited: bool,
@@ -56,7 +57,8 @@ pub fn same_key(key: &Option<String>, other: &Option<String>) -> bool
 }
 
 fn judged_end(ops: usize, count: usize, last: bool) -> Result<Option<LineOp>, DocError>
-    ensures said { Gives (option_map op_seen) result (judged (record { limited = true; key = None }) count last (done ops)) }
+    ensures said { Gives (option_map op_seen) result
+        (judged (record { limited = true; key = None }) count last (done ops)) }
     ensures allowed { IfOk result (λ found. IfSome found IsAllowed) }
 {
     if !last {

@@ -1,5 +1,6 @@
 //! From bytes to the log that they stand for.
-ghost use Rattle.std.specs.Prelude.{◌≡◌, ◌<◌, ◌+◌, ◌^◌, ℕ, List, [], length, option_map, string_bytes, IfErr, IfOk, OnOk};
+ghost use Rattle.std.specs.Prelude.{◌≡◌, ◌<◌, ◌+◌, ◌^◌, ℕ, List, [], length, option_map};
+ghost use Rattle.std.specs.Prelude.{string_bytes, IfErr, IfOk, OnOk};
 ghost use Rattle.history_core.specs.declared.history.Op.{Op};
 ghost use Rattle.lines_log.specs.Faults.{IsBodyFault, is_end, IsLinesFault};
 ghost use Rattle.lines_log.specs.Logs.{first_key, IsLinesLog, text_of};

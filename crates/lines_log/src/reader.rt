@@ -1,5 +1,6 @@
 //! The reader.
-ghost use Rattle.std.specs.Prelude.{◌≡◌, ◌<◌, ◌≤◌, Bool, Ok, Some, option_map, ◌+◌, ◌^◌, ◌++◌, ◌∷◌, [], ℕ, List, true, length, is_some};
+ghost use Rattle.std.specs.Prelude.{◌≡◌, ◌<◌, ◌≤◌, Bool, Ok, Some, option_map, ◌+◌, ◌^◌, ◌++◌, ◌∷◌, [], ℕ};
+ghost use Rattle.std.specs.Prelude.{List, true, length, is_some};
 ghost use Rattle.std.specs.Prelude.{IfErr, IfOk, OnOk, string_bytes};
 ghost use Rattle.lines_log.specs.Faults.{IsLineFault};
 ghost use Rattle.lines_log.specs.Logs.{judged_line};
@@ -59,12 +60,12 @@ impl Reader {
     pub fn read(&mut self, alloc: Global, bytes: &[u8], last: bool) -> Result<bool, Fault>
         requires room { self.old.count + 2 < 2 ^ 64 }
         requires known { HasReadLines self.old }
-        ensures read { IfOk result (λ ended. (opening : List ℕ) (lines : List (List ℕ)) → AreRead opening lines self.old →
-            ReadsLine opening lines bytes.now last self.old self.new ended) }
+        ensures read { IfOk result (λ ended. (opening : List ℕ) (lines : List (List ℕ)) →
+            AreRead opening lines self.old → ReadsLine opening lines bytes.now last self.old self.new ended) }
         ensures rule { OnOk result (rule_of self.new ≡ rule_of self.old) }
         ensures grows { OnOk result (self.new.count ≤ self.old.count + 1) }
-        ensures fault { IfErr result (λ fault. (opening : List ℕ) (lines : List (List ℕ)) → AreRead opening lines self.old →
-            IsLineFault opening (rule_of self.old) lines bytes.now last fault) }
+        ensures fault { IfErr result (λ fault. (opening : List ℕ) (lines : List (List ℕ)) →
+            AreRead opening lines self.old → IsLineFault opening (rule_of self.old) lines bytes.now last fault) }
     {
         let place = self.count;
         match read_op(alloc, self.limited, &self.key, place, last, bytes) {
@@ -83,12 +84,15 @@ impl Reader {
         requires room { self.old.count + 2 < 2 ^ 64 }
         requires known { HasReadLines self.old }
         ensures entered { OnOk result ((opening : List ℕ) (lines : List (List ℕ)) (line : List ℕ) (last : Bool) →
-            AreRead opening lines self.old → judged_line (rule_of self.old) (length lines) last line ≡ Ok (Some (op_seen op)) →
+            AreRead opening lines self.old →
+            judged_line (rule_of self.old) (length lines) last line ≡ Ok (Some (op_seen op)) →
             AreRead opening (lines ++ line ∷ []) self.new) }
         ensures rule { OnOk result (rule_of self.new ≡ rule_of self.old) }
         ensures grows { OnOk result (self.new.count ≤ self.old.count + 1) }
-        ensures fault { IfErr result (λ fault. (opening : List ℕ) (lines : List (List ℕ)) (line : List ℕ) (last : Bool) →
-            AreRead opening lines self.old → judged_line (rule_of self.old) (length lines) last line ≡ Ok (Some (op_seen op)) →
+        ensures fault { IfErr result
+            (λ fault. (opening : List ℕ) (lines : List (List ℕ)) (line : List ℕ) (last : Bool) →
+            AreRead opening lines self.old →
+            judged_line (rule_of self.old) (length lines) last line ≡ Ok (Some (op_seen op)) →
             IsLineFault opening (rule_of self.old) lines line last fault) }
     {
         let place = self.count;

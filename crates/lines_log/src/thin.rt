@@ -1,5 +1,6 @@
 //! How operations are kept.
-ghost use Rattle.std.specs.Prelude.{◌≡◌, ◌+◌, ◌<◌, ◌^◌, ◌++◌, ◌∷◌, [], ℕ, List, true, length, if◌then◌else◌, is_none, IfErr, IsSome, OnOk};
+ghost use Rattle.std.specs.Prelude.{◌≡◌, ◌+◌, ◌<◌, ◌^◌, ◌++◌, ◌∷◌, [], ℕ, List, true, length, if◌then◌else◌};
+ghost use Rattle.std.specs.Prelude.{is_none, IfErr, IsSome, OnOk};
 ghost use Rattle.history_core.specs.declared.history.Op.{Op};
 ghost use Rattle.history_core.specs.Reasons.{counts};
 ghost use Rattle.history_thinning.specs.inner.Kept.{IsThinning};

@@ -12,7 +12,8 @@ pub fn whole_in_long_buffers()
         AnswersInMemory (IsOrderAnswer show bytes) old new size status → size ≤ length old → status ≢ 4 →
         (reply : Result Answer Fault) × IsOrderAnswer show bytes reply × IsOfReply reply (take size new) status }
     ensures rest { (show : Show) (bytes old new : List ℕ) (size status : ℕ) →
-        AnswersInMemory (IsOrderAnswer show bytes) old new size status → size ≤ length old → drop size new ≡ drop size old }
+        AnswersInMemory (IsOrderAnswer show bytes) old new size status → size ≤ length old →
+        drop size new ≡ drop size old }
 {}
 
 /// A shorter buffer is full of the answer's front.

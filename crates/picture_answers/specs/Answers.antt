@@ -89,10 +89,12 @@ drawn scene = record { text = picture_of scene; status = status_of (exit_of scen
 
 -- the answer to a history and an order of it
 abbrev pub DrawsCheck : CheckDocument → Result Answer Fault → Type 0
-DrawsCheck document (Ok answer) = (scene : Scene) × ShowsCheck document.history document.order scene × (answer ≡ drawn scene)
+DrawsCheck document (Ok answer) = (scene : Scene) × ShowsCheck document.history document.order scene
+    × (answer ≡ drawn scene)
 DrawsCheck document (Err fault) = ⊥
 
--- the answer to a log: the picture of the order that was found, or of the reason why there is none; or why no order was looked for
+-- the answer to a log: the picture of the order that was found, or of the reason why there is none;
+-- or why no order was looked for
 abbrev pub AnswersLog : History Band → Result Answer Fault → Type 0
 AnswersLog log (Ok answer) =
     (search : Search) × IsLogSearch log search × (scene : Scene) × ShowsLog log search scene × (answer ≡ drawn scene)
@@ -101,7 +103,8 @@ AnswersLog log (Err fault) = IsLogFault log fault
 -- the answer to the schedule of a cell: the picture of the report of its run, or the first step that has no operation
 abbrev pub DrawsCell : CellSchedule Band → Result Answer Fault → Type 0
 DrawsCell schedule (Ok answer) =
-    (r : CellReport Band) × IsCellReport schedule r × (scene : Scene) × ShowsCell schedule r scene × (answer ≡ drawn scene)
+    (r : CellReport Band) × IsCellReport schedule r × (scene : Scene) × ShowsCell schedule r scene
+    × (answer ≡ drawn scene)
 DrawsCell schedule (Err (fault.Document refusal)) = ⊥
 DrawsCell schedule (Err (fault.History why)) = ⊥
 DrawsCell schedule (Err (fault.Lines why)) = ⊥

@@ -1,5 +1,5 @@
--- What the picture of a document shows (this project's own): its history and order, or those that its player made of it, or of a log the
--- order that was found; with its points and with what breaks it, or why there is none.
+-- What the picture of a document shows (this project's own): its history and order, or those that its player made of
+-- it, or of a log the order that was found; with its points and with what breaks it, or why there is none.
 use Rattle.std.specs.Prelude.{◌≡◌, ◌==◌, ◌&&◌, ◌⊎◌, IsTrue, List, ℕ, [], IfSome, Option, None, Some}
 use Rattle.four_slot_core.specs.declared.schedule.CellReport.{CellReport}
 use Rattle.four_slot_core.specs.declared.schedule.CellSchedule.{CellSchedule}

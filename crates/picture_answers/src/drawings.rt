@@ -3,8 +3,10 @@ ghost use Rattle.program_runs.specs.Answers.{GivesReply};
 ghost use Rattle.read_document.specs.Refusals.{Gives as Reads};
 ghost use Rattle.read_log.specs.Log.{CanBeSearched};
 ghost use Rattle.matrix_core.specs.Runs.{CanPlay};
-ghost use Rattle.picture_answers.specs.Answers.{DrawsBoard, DrawsCell, DrawsCheck, AnswersLog, DrawsMatrix, DrawsSchedule};
-ghost use Rattle.picture_answers.specs.Answers.{CanBeShown, document_of, drawn, exit_of, IsPictureAnswer, other_in, shown_in};
+ghost use Rattle.picture_answers.specs.Answers.{DrawsBoard, DrawsCell, DrawsCheck, AnswersLog};
+ghost use Rattle.picture_answers.specs.Answers.{DrawsMatrix, DrawsSchedule};
+ghost use Rattle.picture_answers.specs.Answers.{CanBeShown, document_of, drawn, exit_of};
+ghost use Rattle.picture_answers.specs.Answers.{IsPictureAnswer, other_in, shown_in};
 ghost use Rattle.read_schedule.specs.Players.{CanBePlayed};
 ghost use Rattle.serde_json.specs.View.{view};
 
@@ -45,8 +47,8 @@ pub fn answer(alloc: Global, bytes: &[u8]) -> Result<Answer, Fault>
     }
 }
 
-/// The document that the bytes stand for. The JSON value that they are is left unfreed: a run reads one document and ends, and
-/// the value goes with the process.
+/// The document that the bytes stand for. The JSON value that they are is left unfreed: a run reads one document and
+/// ends, and the value goes with the process.
 #[tactic(auto, unfolding(crate::specs::Answers::document_of))]
 fn read(alloc: Global, bytes: &[u8]) -> Result<Shown, DocError>
     ensures document { Reads (λ d. d) result (document_of bytes.now) }

@@ -44,8 +44,9 @@ impl Command for Draw {
     }
 }
 
-/// Runs the program over its streams, and gives the status that it ends with. It is asked for a picture where it is given no words
-/// besides its name. The picture goes to `out`, and what is to be told besides goes to `faults`, whose failures change no status.
+/// Runs the program over its streams, and gives the status that it ends with. It is asked for a picture where it is
+/// given no words besides its name. The picture goes to `out`, and what is to be told besides goes to `faults`,
+/// whose failures change no status.
 pub fn run<I: Source, O: Sink, E: Sink>(
     alloc: Global,
     asked: bool,

@@ -6,7 +6,8 @@ use Rattle.program_runs.specs.declared.fault.Fault.{Fault}
 use Rattle.program_runs.specs.declared.fault.Fault.TheVariants as fault
 
 -- the answer to a document that may be refused, which is the fault then
-abbrev pub AnswersReading : {D : Type 0} → (D → Result Answer Fault → Type 0) → Result D DocError → Result Answer Fault → Type 0
+abbrev pub AnswersReading : {D : Type 0} → (D → Result Answer Fault → Type 0) → Result D DocError →
+    Result Answer Fault → Type 0
 AnswersReading Answers (Ok document) reply = Answers document reply
 AnswersReading Answers (Err refusal) reply = reply ≡ Err (fault.Document refusal)
 

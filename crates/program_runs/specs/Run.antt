@@ -1,5 +1,6 @@
 -- What a run over a document does to its streams (this project's own).
-use Rattle.std.specs.Prelude.{◌≡◌, ◌≢◌, ◌≤◌, ◌<◌, ◌+◌, ◌++◌, ◌⊎◌, ◌↔◌, ℕ, Bool, true, false, List, [], length, Option, Result, Ok, Err, Vec}
+use Rattle.std.specs.Prelude.{◌≡◌, ◌≢◌, ◌≤◌, ◌<◌, ◌+◌, ◌++◌, ◌⊎◌, ◌↔◌, ℕ, Bool, true, false, List, []}
+use Rattle.std.specs.Prelude.{length, Option, Result, Ok, Err, Vec}
 use Rattle.std.specs.declared.alloc.Global.{Global}
 use Rattle.std.specs.Io.{StartsWith}
 use Rattle.std.specs.Io.KnownBytes.{Consumes, Appends, IsAtEnd}
@@ -48,23 +49,26 @@ IsFront IsOutcome taken sent = (told : Answer) × IsOutcome taken told × Starts
 abbrev pub never : List ℕ → Bool
 never taken = false
 
--- No more was taken than a run takes, unless it is of a kind without a bound; and no more white space at its end than is kept.
+-- No more was taken than a run takes, unless it is of a kind without a bound; and no more white
+-- space at its end than is kept.
 abbrev pub IsInBound : (List ℕ → Bool) → List ℕ → Type 0
-IsInBound is_unbounded taken = (is_unbounded taken ≡ false → length taken ≤ most_taken) × (space_behind taken ≤ most_kept_space)
+IsInBound is_unbounded taken = (is_unbounded taken ≡ false → length taken ≤ most_taken)
+    × (space_behind taken ≤ most_kept_space)
 
 abbrev pub TakesInBound : (List ℕ → Bool) → Option (List ℕ) → Option (List ℕ) → List ℕ → Type 0
 TakesInBound is_unbounded old new taken = Consumes old new taken × IsInBound is_unbounded taken
 
--- the input was taken to its end; or, where it has a bound, up to that; or until it ended in more white space than may stand behind a log
+-- the input was taken to its end; or, where it has a bound, up to that; or until it ended in more white
+-- space than may stand behind a log
 abbrev pub IsWholeInput : (List ℕ → Bool) → List ℕ → Option (List ℕ) → Type 0
 IsWholeInput is_unbounded taken left =
     IsAtEnd left ⊎ (((is_unbounded taken ≡ false) × (length taken ≡ most_taken)) ⊎ (ends_in_space taken ≡ true))
 
--- A run ended with this status, in which such an outcome comes of the input, which is taken to its end, or to too much white space, where
--- it is of a kind without a bound. in_old and in_new are the bytes that were left of the input before and after, out_old and out_new
--- those that had gone out.
-pub record Runs (IsOutcome : List ℕ → Answer → Type 0) (is_unbounded : List ℕ → Bool) (in_old in_new out_old out_new : Option (List ℕ))
-    (status : ℕ) : Type 0 where
+-- A run ended with this status, in which such an outcome comes of the input, which is taken to its end, or to too much
+-- white space, where it is of a kind without a bound. in_old and in_new are the bytes that were left of the input
+-- before and after, out_old and out_new those that had gone out.
+pub record Runs (IsOutcome : List ℕ → Answer → Type 0) (is_unbounded : List ℕ → Bool)
+    (in_old in_new out_old out_new : Option (List ℕ)) (status : ℕ) : Type 0 where
   pub taken : List ℕ
   pub sent : List ℕ
   pub takes : Consumes in_old in_new taken
@@ -78,8 +82,8 @@ pub record Runs (IsOutcome : List ℕ → Answer → Type 0) (is_unbounded : Lis
   pub told : status ≢ 4 → status ≢ 5 → IsOutcome taken (record { text = sent; status = status })
   pub whole : status ≢ 2 → status ≢ 4 → status ≢ 5 → IsWholeInput is_unbounded taken in_new
 
--- The failures of the input and of the output before and after: status 5 is answered exactly where one more was counted, and
--- both together count one more at most.
+-- The failures of the input and of the output before and after: status 5 is answered exactly where one more was
+-- counted, and both together count one more at most.
 pub record Fails (in_old in_new out_old out_new status : ℕ) : Type 0 where
   pub five : (status ≡ 5) ↔ ((in_old < in_new) ⊎ (out_old < out_new))
   pub once : in_new + out_new ≤ in_old + out_old + 1
@@ -88,16 +92,19 @@ pub record Fails (in_old in_new out_old out_new status : ℕ) : Type 0 where
 
 -- the input was taken whole, or as far as it was before the run ended
 abbrev pub TakesDocument : (List ℕ → Bool) → Option (List ℕ) → Option (List ℕ) → Result (Vec ℕ Global) ℕ → Type 0
-TakesDocument is_unbounded old new (Ok v) = TakesInBound is_unbounded old new v.items × IsWholeInput is_unbounded v.items new
+TakesDocument is_unbounded old new (Ok v) = TakesInBound is_unbounded old new v.items
+    × IsWholeInput is_unbounded v.items new
 TakesDocument is_unbounded old new (Err status) = (taken : List ℕ) × TakesInBound is_unbounded old new taken
 
--- the rest of the input was taken, and stands behind what had been taken, or as much of it as ends in too much white space; or some of
--- it was
+-- the rest of the input was taken, and stands behind what had been taken, or as much of it as ends in too much
+-- white space; or some of it was
 abbrev pub TakesRestOf : Option (List ℕ) → Option (List ℕ) → List ℕ → Result (Vec ℕ Global) ℕ → Type 0
 TakesRestOf old new before (Ok v) =
-    (taken : List ℕ) × Consumes old new taken × (v.items ≡ before ++ taken) × (IsAtEnd new ⊎ (ends_in_space v.items ≡ true))
+    (taken : List ℕ) × Consumes old new taken × (v.items ≡ before ++ taken)
+    × (IsAtEnd new ⊎ (ends_in_space v.items ≡ true))
     × KeepsSpace before v.items
-TakesRestOf old new before (Err status) = (taken : List ℕ) × Consumes old new taken × KeepsSpace before (before ++ taken)
+TakesRestOf old new before (Err status) = (taken : List ℕ) × Consumes old new taken
+    × KeepsSpace before (before ++ taken)
 
 -- the status is 5 where a read failed, and else that of want of memory
 abbrev pub CountsTaking : ℕ → ℕ → Result (Vec ℕ Global) ℕ → Type 0
@@ -109,20 +116,24 @@ abbrev pub TellsUnlessTaken : ℕ → ℕ → Result (Vec ℕ Global) ℕ → Ty
 TellsUnlessTaken old new (Ok v) = new ≡ old
 TellsUnlessTaken old new (Err status) = new ≤ old + 1
 
--- The text of an answer went out whole, with its status; or a front of it, and the stream failed. Of a fault nothing goes out.
+-- The text of an answer went out whole, with its status; or a front of it, and the stream failed.
+-- Of a fault nothing goes out.
 abbrev pub GivesAnswer : Result Answer Fault → Option (List ℕ) → Option (List ℕ) → ℕ → ℕ → ℕ → Type 0
 GivesAnswer (Ok answer) old new failed_old failed_new status =
     (Appends old new answer.text × (failed_new ≡ failed_old) × (status ≡ answer.status))
-    ⊎ (((sent : List ℕ) × StartsWith answer.text sent × Appends old new sent) × (failed_new ≡ failed_old + 1) × (status ≡ 5))
+    ⊎ (((sent : List ℕ) × StartsWith answer.text sent × Appends old new sent)
+    × (failed_new ≡ failed_old + 1) × (status ≡ 5))
 GivesAnswer (Err fault) old new failed_old failed_new status =
     (new ≡ old) × (failed_new ≡ failed_old) × ((status ≡ fault_status fault) ⊎ (status ≡ 4))
 
 -- the line of a fault went out, with its status
 abbrev pub TellsAs : Fault → List ℕ → Option (List ℕ) → Option (List ℕ) → ℕ → ℕ → ℕ → Type 0
-TellsAs fault line old new failed_old failed_new status = TellsLine old new failed_old failed_new line × (status ≡ fault_status fault)
+TellsAs fault line old new failed_old failed_new status = TellsLine old new failed_old failed_new line
+    × (status ≡ fault_status fault)
 
--- The line of a fault went out, or the stream failed within it. That of want of memory and that of a thread that can't start are the
--- program's own. Where there is no memory for another line, that of want of memory went out, with its status.
+-- The line of a fault went out, or the stream failed within it. That of want of memory and that of a
+-- thread that can't start are the program's own. Where there is no memory for another line, that of want
+-- of memory went out, with its status.
 abbrev pub TellsFault : Program → Fault → Option (List ℕ) → Option (List ℕ) → ℕ → ℕ → ℕ → Type 0
 TellsFault program NoMemory = TellsAs NoMemory program.no_memory.now
 TellsFault program NoThread = TellsAs NoThread program.no_thread.now

@@ -37,8 +37,8 @@ pub trait Command {
         ensures low { HasLowStatus result };
 }
 
-/// Runs a command over the streams of its program, and gives the status that the run ends with. The text goes to `out`, and what is to
-/// be told besides goes to `faults`, whose failures change no status.
+/// Runs a command over the streams of its program, and gives the status that the run ends with. The text goes to `out`,
+/// and what is to be told besides goes to `faults`, whose failures change no status.
 pub fn run_command<C: Command, I: Source, O: Sink, E: Sink>(
     alloc: Global,
     program: &Program,

@@ -1,4 +1,5 @@
-//! A run over one document: the input is read whole, the answer to it written, or the fault told, and the status says how it ended.
+//! A run over one document: the input is read whole, the answer to it written, or the fault told, and
+//! the status says how it ended.
 #![tactic(auto)]
 
 mod command;

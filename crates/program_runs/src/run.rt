@@ -1,5 +1,6 @@
 ghost use Rattle.std.specs.Prelude.{◌≡◌, ◌≤◌, ◌+◌};
-ghost use Rattle.program_runs.specs.Run.{CountsTaking, GivesAnswer, never, TakesDocument, TakesRestOf, TellsFault, TellsUnlessTaken};
+ghost use Rattle.program_runs.specs.Run.{CountsTaking, GivesAnswer, never, TakesDocument, TakesRestOf};
+ghost use Rattle.program_runs.specs.Run.{TellsFault, TellsUnlessTaken};
 ghost use Rattle.program_streams.specs.Stream.{HasRoom};
 
 use crate::{Answer, Fault};
@@ -25,7 +26,8 @@ pub const FSR: Program = Program {
     no_thread: "fsr: a thread can't start\n",
 };
 
-/// Reads the input whole, or as far as a run reads a document; or tells why it was not read and gives the status that the run ends with.
+/// Reads the input whole, or as far as a run reads a document; or tells why it was not read and gives the
+/// status that the run ends with.
 pub fn take_document<I: Source, E: Sink>(
     alloc: Global,
     program: &Program,
@@ -51,7 +53,8 @@ pub fn take_document<I: Source, E: Sink>(
     }
 }
 
-/// Reads what is left of the input, behind a front of it, or tells why it was not read and gives the status that the run ends with.
+/// Reads what is left of the input, behind a front of it, or tells why it was not read and gives the
+/// status that the run ends with.
 pub fn take_rest<I: Source, E: Sink>(
     program: &Program,
     front: Vec<u8>,
@@ -90,7 +93,8 @@ pub fn give_answer<O: Sink, E: Sink>(
 ) -> u8
     requires out { HasRoom (O.failed out.old) }
     requires faults { HasRoom (E.failed faults.old) }
-    ensures given { GivesAnswer reply (O.contents out.old) (O.contents out.new) (O.failed out.old) (O.failed out.new) result }
+    ensures given { GivesAnswer reply (O.contents out.old) (O.contents out.new) (O.failed out.old)
+        (O.failed out.new) result }
     ensures faults { E.failed faults.new ≤ E.failed faults.old + 1 }
 {
     match reply {
@@ -105,12 +109,12 @@ pub fn give_answer<O: Sink, E: Sink>(
     }
 }
 
-/// Tells the fault, and gives its status, or that of want of memory where its line found none. The lines of want of memory and of a thread
-/// that can't start need none.
+/// Tells the fault, and gives its status, or that of want of memory where its line found none. The lines of want of
+/// memory and of a thread that can't start need none.
 pub fn tell_fault<E: Sink>(alloc: Global, program: &Program, faults: &mut E, fault: &Fault) -> u8
     requires { HasRoom (E.failed faults.old) }
-    ensures told { TellsFault program.now fault.now (E.contents faults.old) (E.contents faults.new) (E.failed faults.old)
-        (E.failed faults.new) result }
+    ensures told { TellsFault program.now fault.now (E.contents faults.old) (E.contents faults.new)
+        (E.failed faults.old) (E.failed faults.new) result }
     ensures once { E.failed faults.new ≤ E.failed faults.old + 1 }
 {
     match fault {

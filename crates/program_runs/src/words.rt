@@ -6,8 +6,8 @@ use std::alloc::AllocGlobal;
 use std::env::{Env, args};
 use std::io::ErrorKind;
 
-/// The words that the program was run with, of which the first is its name. Where they aren't UTF-8, or memory runs out, it tells
-/// so and gives the status that the run ends with.
+/// The words that the program was run with, of which the first is its name. Where they aren't UTF-8, or memory runs
+/// out, it tells so and gives the status that the run ends with.
 pub fn words_of<R: Env + AllocGlobal, E: Sink>(
     rt: &R,
     no_memory: &str,

@@ -1,7 +1,8 @@
 -- The statuses that programs end with (this project's own).
 use Rattle.std.specs.Prelude.{ℕ}
 use Rattle.program_streams.specs.declared.exit.Exit.{Exit}
-use Rattle.program_streams.specs.declared.exit.Exit.TheVariants.{Sound, Unsound, NoCommand, Refused, NoMemory, Stream, NoThread}
+use Rattle.program_streams.specs.declared.exit.Exit.TheVariants.{Sound, Unsound, NoCommand, Refused}
+use Rattle.program_streams.specs.declared.exit.Exit.TheVariants.{NoMemory, Stream, NoThread}
 use Rattle.program_streams.specs.declared.exit.Exit.TheVariants.{Undecided}
 
 abbrev pub status_of : Exit → ℕ

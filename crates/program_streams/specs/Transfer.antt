@@ -1,5 +1,6 @@
 -- What reading the input and telling a line do (this project's own).
-use Rattle.std.specs.Prelude.{◌≡◌, ◌<◌, ◌≤◌, ◌+◌, ◌^◌, ◌++◌, ◌⊎◌, ℕ, Bool, true, false, List, length, Option, Result, Ok, Err, Vec, ⊤}
+use Rattle.std.specs.Prelude.{◌≡◌, ◌<◌, ◌≤◌, ◌+◌, ◌^◌, ◌++◌, ◌⊎◌, ℕ, Bool, true, false, List, length}
+use Rattle.std.specs.Prelude.{Option, Result, Ok, Err, Vec, ⊤}
 use Rattle.std.specs.declared.alloc.Global.{Global}
 use Rattle.std.specs.Io.{StartsWith}
 use Rattle.std.specs.Io.KnownBytes.{Appends, Consumes, IsAtEnd}
@@ -28,8 +29,8 @@ CountsFailure old new (Ok x) = new ≡ old
 CountsFailure old new (Err Failed) = new ≡ old + 1
 CountsFailure old new (Err NoMemory) = new ≡ old
 
--- What was left was taken and added, to the end of the input, or until the bytes ended in more white space than may stand behind a log;
--- or some of it was taken. Of white space that goes on no more was taken than is kept.
+-- What was left was taken and added, to the end of the input, or until the bytes ended in more white space than may
+-- stand behind a log; or some of it was taken. Of white space that goes on no more was taken than is kept.
 abbrev pub TakesRest : Option (List ℕ) → Option (List ℕ) → List ℕ → List ℕ → Result ⊤ InputFault → Type 0
 TakesRest old new before after (Ok u) =
     (taken : List ℕ) × Consumes old new taken × (after ≡ before ++ taken) × (IsAtEnd new ⊎ (ends_in_space after ≡ true))
@@ -43,8 +44,8 @@ TakesPiece old new before after (Ok more) =
     × (more ≡ true → (length taken ≡ most_taken) × (length after < 2 ^ 64)) × (more ≡ false → IsAtEnd new)
 TakesPiece old new before after (Err e) = (taken : List ℕ) × Consumes old new taken × (length taken ≤ most_taken)
 
--- Bytes were taken and added, up to the end or until there were so many; or they were taken, and what had come before stays within the
--- bound with them.
+-- Bytes were taken and added, up to the end or until there were so many; or they were taken, and what had come before
+-- stays within the bound with them.
 abbrev pub TakesUpTo : ℕ → Option (List ℕ) → Option (List ℕ) → List ℕ → List ℕ → Result ⊤ InputFault → Type 0
 TakesUpTo most old new before after (Ok u) =
     (taken : List ℕ) × Consumes old new taken × (after ≡ before ++ taken) × ((most ≤ length after) ⊎ IsAtEnd new)
@@ -52,8 +53,8 @@ TakesUpTo most old new before after (Ok u) =
 TakesUpTo most old new before after (Err e) =
     (taken : List ℕ) × Consumes old new taken × (length before ≤ most → length before + length taken ≤ most)
 
--- A piece was taken and added, which is empty at the end alone; or it was taken, and what had come before stays within the
--- bound with it.
+-- A piece was taken and added, which is empty at the end alone; or it was taken, and what had come before
+-- stays within the bound with it.
 abbrev pub TakesMore : ℕ → Option (List ℕ) → Option (List ℕ) → List ℕ → List ℕ → Result ℕ InputFault → Type 0
 TakesMore most old new before after (Ok n) =
     (taken : List ℕ) × Consumes old new taken × (after ≡ before ++ taken) × (length after ≤ most)

@@ -1,5 +1,5 @@
-//! The streams of a program, and how it ends: its input is read whole, its text written whole, their failures are counted, and each end has
-//! its status. And whether threads can start.
+//! The streams of a program, and how it ends: its input is read whole, its text written whole, their failures are
+//! counted, and each end has its status. And whether threads can start.
 #![tactic(auto)]
 
 mod exit;

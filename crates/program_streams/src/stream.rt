@@ -17,8 +17,8 @@ pub trait Source {
     // How many calls failed.
     ghost failed: { Self → ℕ };
 
-    /// Fills the front of `buf` with the next bytes and gives their number, which is 0 at the end alone. A call that fails
-    /// gives no bytes.
+    /// Fills the front of `buf` with the next bytes and gives their number, which is 0 at the end alone. A
+    /// call that fails gives no bytes.
     fn take(&mut self, buf: &mut [u8]) -> Result<usize, Failed>
         requires { HasRoom (failed self.old) }
         ensures bound { ReadsAtMost result buf.new }

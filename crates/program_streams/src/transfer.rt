@@ -36,8 +36,8 @@ pub fn read_input<I: Source>(alloc: Global, input: &mut I) -> Result<Vec<u8>, In
     }
 }
 
-/// Reads what is left of the input, to its end, and adds it to the bytes. It stops where they end in more white space than may stand
-/// behind the last line of a log.
+/// Reads what is left of the input, to its end, and adds it to the bytes. It stops where they end in more white space
+/// than may stand behind the last line of a log.
 pub fn read_rest<I: Source>(input: &mut I, bytes: &mut Vec<u8>) -> Result<(), InputFault>
     requires { HasRoom (I.failed input.old) }
     ensures taken { TakesRest (I.remaining input.old) (I.remaining input.new) bytes.old.items bytes.new.items result }
@@ -60,8 +60,8 @@ fn goes_on(more: bool, bytes: &[u8]) -> bool
     more && !ends_in_space(bytes)
 }
 
-/// Adds a piece of the input, as long as the longest that a run reads of a document, and says whether it is whole. Otherwise the input is
-/// at its end.
+/// Adds a piece of the input, as long as the longest that a run reads of a document, and says whether it is whole.
+/// Otherwise the input is at its end.
 fn read_piece<I: Source>(input: &mut I, bytes: &mut Vec<u8>) -> Result<bool, InputFault>
     requires { HasRoom (I.failed input.old) }
     ensures taken { TakesPiece (I.remaining input.old) (I.remaining input.new) bytes.old.items bytes.new.items result }
@@ -79,7 +79,8 @@ fn read_piece<I: Source>(input: &mut I, bytes: &mut Vec<u8>) -> Result<bool, Inp
 /// Adds the next bytes of the input, up to its end or until there are so many.
 fn read_up_to<I: Source>(input: &mut I, bytes: &mut Vec<u8>, most: usize) -> Result<(), InputFault>
     requires { HasRoom (I.failed input.old) }
-    ensures taken { TakesUpTo most (I.remaining input.old) (I.remaining input.new) bytes.old.items bytes.new.items result }
+    ensures taken { TakesUpTo most (I.remaining input.old)
+        (I.remaining input.new) bytes.old.items bytes.new.items result }
     ensures counts { CountsFailure (I.failed input.old) (I.failed input.new) result }
 {
     'input: while bytes.len() < most {
@@ -92,8 +93,8 @@ fn read_up_to<I: Source>(input: &mut I, bytes: &mut Vec<u8>, most: usize) -> Res
     Ok(())
 }
 
-/// Takes the next piece of the input, and adds it to the bytes, of which there are no more than so many then. The count is 0 at the end
-/// alone.
+/// Takes the next piece of the input, and adds it to the bytes, of which there are no more than so many then. The
+/// count is 0 at the end alone.
 fn take_more<I: Source>(
     input: &mut I,
     bytes: &mut Vec<u8>,
@@ -101,7 +102,8 @@ fn take_more<I: Source>(
 ) -> Result<usize, InputFault>
     requires room { HasRoom (I.failed input.old) }
     requires short { length bytes.old.items < most }
-    ensures more { TakesMore most (I.remaining input.old) (I.remaining input.new) bytes.old.items bytes.new.items result }
+    ensures more { TakesMore most (I.remaining input.old)
+        (I.remaining input.new) bytes.old.items bytes.new.items result }
     ensures counts { CountsFailure (I.failed input.old) (I.failed input.new) result }
 {
     let mut chunk = [0u8; CHUNK];

@@ -1,5 +1,7 @@
--- The JSON value that some bytes are, and the kind of that document (this project's own, over RFC 8259 as serde_json reads it).
-use Rattle.std.specs.Prelude.{ℕ, List, length, codes, Bool, false, nat_le, if◌then◌else◌, Option, None, option_and_then, Result}
+-- The JSON value that some bytes are, and the kind of that document (this project's own, over RFC
+-- 8259 as serde_json reads it).
+use Rattle.std.specs.Prelude.{ℕ, List, length, codes, Bool, false, nat_le, if◌then◌else◌, Option}
+use Rattle.std.specs.Prelude.{None, option_and_then, Result}
 use Rattle.std.specs.Option.{option_map_or}
 use Rattle.std.specs.Str.{bytes_eq, is_utf8}
 use Rattle.serde_json.specs.Data.{Data}

@@ -1,5 +1,6 @@
 -- The steps by which a document is read, each of which gives a value or a refusal (this project's own).
-use Rattle.std.specs.Prelude.{◌≡◌, ◌≢◌, List, Bool, true, false, is_none, Option, Some, None, option_and_then, Result, Ok, Err, ⊤}
+use Rattle.std.specs.Prelude.{◌≡◌, ◌≢◌, List, Bool, true, false, is_none, Option, Some, None}
+use Rattle.std.specs.Prelude.{option_and_then, Result, Ok, Err, ⊤}
 use Rattle.std.specs.List.{find}
 use Rattle.serde_json.specs.Data.{Data}
 use Rattle.serde_json.specs.Find.{get}

@@ -1,4 +1,5 @@
--- What values of documents stand for: whole numbers, the items of an array, the kind of an operation (this project's own).
+-- What values of documents stand for: whole numbers, the items of an array, the kind of an
+-- operation (this project's own).
 use Rattle.std.specs.Prelude.{ℕ, List, [], ◌∷◌, codes, if◌then◌else◌, Option, Some, None, option_map, option_and_then}
 use Rattle.std.specs.Str.{bytes_eq}
 use Rattle.serde_json.specs.Data.{Data, null, Items, no_items, item}

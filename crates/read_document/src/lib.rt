@@ -1,5 +1,5 @@
-//! What documents of several kinds share: the JSON value that they are, their keys, numbers and ranges, why they are refused, and the lines
-//! of a text.
+//! What documents of several kinds share: the JSON value that they are, their keys, numbers and ranges, why they are
+//! refused, and the lines of a text.
 #![tactic(auto)]
 
 mod fields;

@@ -5,8 +5,9 @@ use crate::Key;
 use std::alloc::AllocError;
 use thiserror::Error;
 
-/// Why a document is refused. The refusals are tested in this order, each over the whole document before the next one, but
-/// want of memory may come at any point. Of several keys with one fault the first in the order of the kind's keys is named.
+/// Why a document is refused. The refusals are tested in this order, each over the whole document before the
+/// next one, but want of memory may come at any point. Of several keys with one fault the first in the order
+/// of the kind's keys is named.
 #[derive(Clone, Copy, Debug, PartialEq, Eq, Error)]
 pub enum DocError {
     #[error("longer than 1048576 bytes")]

@@ -1,5 +1,7 @@
--- The lines of a log: its header, its operations, and the line that may end it (this project's own). A record stands as its text.
-use Rattle.std.specs.Prelude.{◌≡◌, ℕ, List, [], ◌∷◌, codes, Bool, true, not, ◌&&◌, ◌||◌, nat_le, is_some, if◌then◌else◌, Option, Some, None}
+-- The lines of a log: its header, its operations, and the line that may end it (this project's own).
+-- A record stands as its text.
+use Rattle.std.specs.Prelude.{◌≡◌, ℕ, List, [], ◌∷◌, codes, Bool, true, not, ◌&&◌, ◌||◌, nat_le, is_some}
+use Rattle.std.specs.Prelude.{if◌then◌else◌, Option, Some, None}
 use Rattle.std.specs.Prelude.{option_map}
 use Rattle.std.specs.Prelude.{option_and_then, Result, Ok, Err, ⊤, string_bytes}
 use Rattle.std.specs.Option.{option_map_or}
@@ -40,7 +42,8 @@ pub record Head : Type 0 where
 
 -- the same of what was read
 abbrev pub op_seen : LineOp → Op (List ℕ)
-op_seen o = record { who = o.who; kind = o.kind; starts = o.begin; ends = o.end; item = option_map string_bytes o.«record» }
+op_seen o =
+    record { who = o.who; kind = o.kind; starts = o.begin; ends = o.end; item = option_map string_bytes o.«record» }
 
 abbrev pub keyed_seen : LineOp → KeyedOp
 keyed_seen o = record { key = option_map string_bytes o.key; op = op_seen o }

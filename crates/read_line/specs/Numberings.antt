@@ -11,7 +11,8 @@ pub record IsNumbering (records : List (List ℕ)) (numbering : Numbering) : Typ
 
 -- no record stands twice among these
 abbrev pub AreDistinct : List (List ℕ) → Type 0
-AreDistinct records = (text : List ℕ) (m n : ℕ) → slice_get records m ≡ Some text → slice_get records n ≡ Some text → m ≡ n
+AreDistinct records = (text : List ℕ) (m n : ℕ) → slice_get records m ≡ Some text →
+    slice_get records n ≡ Some text → m ≡ n
 
 -- a record was met: it is of these, or one more
 abbrev pub MeetsRecord : List (List ℕ) → List ℕ → List (List ℕ) → Type 0

@@ -1,5 +1,6 @@
 -- The records that finished reads gave, by their numbers (this project's own).
-use Rattle.std.specs.Prelude.{◌≡◌, ◌⊎◌, ℕ, Bool, true, false, List, length, slice_get, nat_eq, Option, None, Some, if◌then◌else◌, unwrap_or}
+use Rattle.std.specs.Prelude.{◌≡◌, ◌⊎◌, ℕ, Bool, true, false, List, length, slice_get, nat_eq, Option, None}
+use Rattle.std.specs.Prelude.{Some, if◌then◌else◌, unwrap_or}
 use Rattle.history_core.specs.declared.history.Op.{Op}
 use Rattle.history_core.specs.declared.history.Kind.{Kind}
 use Rattle.history_core.specs.declared.history.Kind.TheVariants.{Write, Read, Refused}
@@ -22,7 +23,8 @@ gave o = gave_by o.kind o.ends o.item
 -- these are the records that finished reads of the log gave, each once
 pub record AreGiven (log : List (Op ℕ)) (numbers : List ℕ) : Type 0 where
   pub distinct : (i j n : ℕ) → slice_get numbers i ≡ Some n → slice_get numbers j ≡ Some n → i ≡ j
-  pub from : (i n : ℕ) → slice_get numbers i ≡ Some n → (p : ℕ) × (o : Op ℕ) × (slice_get log p ≡ Some o) × (gave o ≡ Some n)
+  pub from : (i n : ℕ) → slice_get numbers i ≡ Some n →
+      (p : ℕ) × (o : Op ℕ) × (slice_get log p ≡ Some o) × (gave o ≡ Some n)
   pub all : (p n : ℕ) (o : Op ℕ) → slice_get log p ≡ Some o → gave o ≡ Some n → (i : ℕ) × (slice_get numbers i ≡ Some n)
 
 -- so many records were read

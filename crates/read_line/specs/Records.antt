@@ -1,6 +1,7 @@
--- The records of a log in lines. They are compared as values, so each is known by its text: the compact JSON of a text, or of an array
--- of numbers; one number is the array of it (this project's own, over RFC 8259 as serde_json writes it).
-use Rattle.std.specs.Prelude.{ℕ, ◌++◌, ◌&&◌, List, length, codes, Bool, nat_le, is_some, if◌then◌else◌, Option, Some, None, option_map}
+-- The records of a log in lines. They are compared as values, so each is known by its text: the compact JSON of a text,
+-- or of an array of numbers; one number is the array of it (this project's own, over RFC 8259 as serde_json writes it).
+use Rattle.std.specs.Prelude.{ℕ, ◌++◌, ◌&&◌, List, length, codes, Bool, nat_le, is_some, if◌then◌else◌}
+use Rattle.std.specs.Prelude.{Option, Some, None, option_map}
 use Rattle.std.specs.Fmt.{decimal}
 use Rattle.std.specs.List.{list_all}
 use Rattle.serde_json.specs.Data.{Data}

@@ -20,7 +20,8 @@ pub record IsLastOf {R : Type 0} (log : List (Op R)) (who : ℕ) (last : Last) :
   pub at : slice_get log last.place ≡ Some op
   pub of_task : op.who ≡ who
   pub ends : op.ends ≡ last.end
-  pub ended : (p m : ℕ) (a : Op R) → slice_get log p ≡ Some a → a.who ≡ who → last.end ≡ Some m → IsSomeAnd a.ends (λ end. end ≤ m)
+  pub ended : (p m : ℕ) (a : Op R) → slice_get log p ≡ Some a → a.who ≡ who → last.end ≡ Some m →
+      IsSomeAnd a.ends (λ end. end ≤ m)
 
 abbrev pub IsLast : {R : Type 0} → List (Op R) → ℕ → Option Last → Type 0
 IsLast {R} log who None = (p : ℕ) (a : Op R) → slice_get log p ≡ Some a → ¬ (a.who ≡ who)

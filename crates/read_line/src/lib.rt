@@ -1,5 +1,5 @@
-//! The lines of a log: its header, its operations, and the line that may end it. And what their reader keeps: a number for each record,
-//! the records that were read, and the last operation of each task.
+//! The lines of a log: its header, its operations, and the line that may end it. And what their reader keeps: a number
+//! for each record, the records that were read, and the last operation of each task.
 #![tactic(auto)]
 
 mod header;

@@ -2,7 +2,8 @@
 ghost use Rattle.std.specs.Prelude.{◌≡◌, true, option_map, is_some, string_bytes, IfOk, OnOk};
 ghost use Rattle.serde_json.specs.View.{view};
 ghost use Rattle.read_document.specs.Refusals.{Gives};
-ghost use Rattle.read_line.specs.Lines.{allowed, done_in, ends_later, entry_in, entry_of, has_record, line_seen, IsAllowed, MayFollow};
+ghost use Rattle.read_line.specs.Lines.{allowed, done_in, ends_later, entry_in, entry_of, has_record};
+ghost use Rattle.read_line.specs.Lines.{line_seen, IsAllowed, MayFollow};
 ghost use Rattle.read_line.specs.Lines.{key_in, keyed_seen, operation_in, record_in};
 
 use crate::line::{LineOp, LogLine};

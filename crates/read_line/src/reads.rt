@@ -30,7 +30,8 @@ impl Reads {
 
     /// Enters the next operation of the log.
     pub fn enter(&mut self, op: &Op<usize>) -> Result<(), AllocError>
-        ensures { OnOk result ((log : List (Op ℕ)) → KnowsReads log self.old → KnowsReads (log ++ op.now ∷ []) self.new) }
+        ensures { OnOk result ((log : List (Op ℕ)) → KnowsReads log self.old →
+            KnowsReads (log ++ op.now ∷ []) self.new) }
     {
         match gave(op) {
             None => Ok(()),

@@ -47,7 +47,8 @@ impl Turns {
         requires { IfSome op.now.ends (λ end. op.now.starts ≤ end) }
         ensures entered { OnOk result ((log : List (Op ℕ)) → length log ≡ place → KnowsTasks log self.old →
             KnowsTasks (log ++ op.now ∷ []) self.new) }
-        ensures error { IfErr result (λ error. (log : List (Op ℕ)) → KnowsTasks log self.old → IsTurnError log op.now error) }
+        ensures error { IfErr result (λ error. (log : List (Op ℕ)) → KnowsTasks log self.old →
+            IsTurnError log op.now error) }
     {
         let last = self.last_of(op.who);
         match overlapped(last, op.starts) {

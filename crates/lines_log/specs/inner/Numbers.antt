@@ -10,14 +10,16 @@ abbrev pub Grow : List (List ℕ) → List (List ℕ) → Type 0
 Grow records after = (n : ℕ) (text : List ℕ) → slice_get records n ≡ Some text → slice_get after n ≡ Some text
 
 -- a record got its number, where there is one
-pub record IsRecordNow (records : List (List ℕ)) (said : Option (List ℕ)) (numbering : Numbering) (item : Option ℕ) : Type 0 where
+pub record IsRecordNow (records : List (List ℕ)) (said : Option (List ℕ)) (numbering : Numbering)
+    (item : Option ℕ) : Type 0 where
   pub after : List (List ℕ)
   pub grows : Grow records after
   pub numbers : IsNumbering after numbering
   pub is : IsItem after said item
 
 -- an operation got the number of its record
-pub record IsNumberedNow (records : List (List ℕ)) (said : Op (List ℕ)) (numbering : Numbering) (op : Op ℕ) : Type 0 where
+pub record IsNumberedNow (records : List (List ℕ)) (said : Op (List ℕ)) (numbering : Numbering)
+    (op : Op ℕ) : Type 0 where
   pub after : List (List ℕ)
   pub grows : Grow records after
   pub numbers : IsNumbering after numbering

@@ -1,5 +1,6 @@
 -- How far a log is read. Only private functions cite this, which is this project's own.
-use Rattle.std.specs.Prelude.{◌≡◌, ℕ, List, [], ◌∷◌, ◌++◌, ◌⊎◌, length, Bool, true, false, slice_get, None, Some, Ok, option_map}
+use Rattle.std.specs.Prelude.{◌≡◌, ℕ, List, [], ◌∷◌, ◌++◌, ◌⊎◌, length, Bool, true, false}
+use Rattle.std.specs.Prelude.{slice_get, None, Some, Ok, option_map}
 use Rattle.std.specs.Prelude.{string_bytes}
 use Rattle.read_line.specs.Numberings.{IsNumbering}
 use Rattle.read_line.specs.Reads.{WereRead, KnowsReads}
@@ -41,7 +42,8 @@ IsEntryFault log f = (f ≡ NoMemory) ⊎ ((error : SearchError) × IsThinnedFau
 -- one more line was read: an operation was entered, or it is the end
 abbrev pub ReadsLine : List ℕ → List (List ℕ) → List ℕ → Bool → Reader → Reader → Bool → Type 0
 ReadsLine opening lines line last old new false = AreRead opening (lines ++ line ∷ []) new
-ReadsLine opening lines line last old new true = AreRead opening lines new × (judged_line (rule_of old) (length lines) last line ≡ Ok None)
+ReadsLine opening lines line last old new true = AreRead opening lines new
+    × (judged_line (rule_of old) (length lines) last line ≡ Ok None)
 
 -- some lines were read
 abbrev pub HasReadLines : Reader → Type 0
@@ -53,8 +55,8 @@ HasRest rule false body lines rest = body ≡ lines ++ lines_of rest
 HasRest rule true body lines rest = (rest ≡ []) × AreAll rule true body lines
 
 -- lines of this body were read
-pub record IsPartlyRead (opening : List ℕ) (rule : LineRule) (ended : Bool) (body : List (List ℕ)) (rest : List ℕ) (reader : Reader) :
-    Type 0 where
+pub record IsPartlyRead (opening : List ℕ) (rule : LineRule) (ended : Bool) (body : List (List ℕ)) (rest : List ℕ)
+    (reader : Reader) : Type 0 where
   pub lines : List (List ℕ)
   pub read : AreRead opening lines reader
   pub limits : rule_of reader ≡ rule

@@ -13,4 +13,5 @@ returns-in-Ok-clause-fails g c =
     fails_answered _ _ _ _ _ _ _ c.reply-reply.result c.in-Ok.ensures.counts c.reply-reply.ensures.low c.give_answer.ensures.given
 
 pub returns-in-Err-clause-runs : goal.returns-in-Err-clause-runs
-returns-in-Err-clause-runs g c = ends_untaken _ (g.C.Command.is_unbounded c.args.command.now) _ _ _ _ _ _ c.in-Err.ensures.taken c.in-Err.ensures.counts
+returns-in-Err-clause-runs g c =
+    ends_untaken _ (g.C.Command.is_unbounded c.args.command.now) _ _ _ _ _ _ c.in-Err.ensures.taken c.in-Err.ensures.counts
