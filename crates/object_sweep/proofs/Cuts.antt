@@ -258,13 +258,13 @@ get_each has [] q o e = cc
 get_each has (x ∷ xs) zero o e = ap (λ z. Some (without_end (has 0) z)) (same_Some x o e)
 get_each has (x ∷ xs) (suc q) o e = get_each (λ n. has (suc n)) xs q o e
 
-get_from : {W : Type 0} (has : ℕ → Bool) (log : List (Operation W)) (q : ℕ) (c : Operation W) → slice_get (cut_log has log) q ≡ Some c →
+pub get_from : {W : Type 0} (has : ℕ → Bool) (log : List (Operation W)) (q : ℕ) (c : Operation W) → slice_get (cut_log has log) q ≡ Some c →
     (o : Operation W) × (slice_get log q ≡ Some o) × (without_end (has q) o ≡ c)
 get_from has [] q c e = cc
 get_from has (x ∷ xs) zero c e = (x, refl, same_Some (without_end (has 0) x) c e)
 get_from has (x ∷ xs) (suc q) c e = get_from (λ n. has (suc n)) xs q c e
 
-is_cut_of : {W : Type 0} (b : Bool) (o : Operation W) → IsCutOf o (without_end b o)
+pub is_cut_of : {W : Type 0} (b : Bool) (o : Operation W) → IsCutOf o (without_end b o)
 is_cut_of true o = record { starts = refl; maybe = refl; what = refl; ends = λ at e. e }
 is_cut_of false o = record { starts = refl; maybe = refl; what = refl; ends = λ at e. cc }
 

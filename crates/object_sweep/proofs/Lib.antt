@@ -11,3 +11,4 @@ pub mod Adding
 pub mod Fronts
 pub mod Events
 pub mod TooMany
+pub mod Lost

@@ -1,10 +1,11 @@
 //! What may be placed at the ends of a log's operations, one after the other, decides whether it has a lawful order.
 
-ghost use Rattle.std.specs.Prelude.{◌≡◌, ◌↔◌, ◌⊎◌, ℕ, ◌<◌, Bool, true, false, ◌||◌, nat_eq, List, slice_get};
+ghost use Rattle.std.specs.Prelude.{◌≡◌, ◌↔◌, ◌⊎◌, ℕ, ◌<◌, Bool, true, false, ◌||◌, nat_eq, List, ◌∷◌, slice_get};
 ghost use Rattle.std.specs.Prelude.{None, Some};
 ghost use Rattle.object_core.specs.declared.operation.Operation.{Operation};
 ghost use Rattle.object_core.specs.Logs.{IsLinearizable};
-ghost use Rattle.object_sweep.specs.Reached.{AreTooMany, is_closed, is_within, IsReachable};
+ghost use Rattle.object_sweep.specs.Cuts.{cut_log};
+ghost use Rattle.object_sweep.specs.Reached.{AreTooMany, is_closed, is_in, is_within, IsLostAt, IsReachable};
 ghost use Rattle.object_sweep.specs.Rests.{CanFinish, CanPlace, NoOpenEndBefore, RunForwards};
 
 use object_core::Object;
@@ -39,6 +40,14 @@ pub fn reached_is_sound<O: Object>()
     ensures { (opening : O) (log : List (Operation O.What)) (ended placed : List ℕ) (s : O) →
         IsReachable O.after opening log ended s placed → CanFinish O.after log (is_closed ended placed) s →
         IsLinearizable O.after opening log }
+{}
+
+/// Where a log is lost, the log so far has no lawful order: that in which this operation has its end, and those that
+/// ended before it, and no other one.
+pub fn lost_is_unlawful<O: Object>()
+    ensures { (opening : O) (log : List (Operation O.What)) (place : ℕ) → RunForwards log →
+        (lost : IsLostAt O.after opening log place) →
+        ¬ IsLinearizable O.after opening (cut_log (λ q. is_in q (place ∷ lost.ended)) log) }
 {}
 
 /// Where more than one configuration is too many, the operation has an end, and two configurations are reached behind
