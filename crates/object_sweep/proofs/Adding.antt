@@ -5,7 +5,7 @@ use Rattle.std.proofs.lemmas.Bool.{cases_Bool, cases_lt}
 use Rattle.std.proofs.lemmas.Option.{same_Some, slice_get_within, slice_get-get_or}
 use Rattle.object_core.specs.declared.operation.Operation.{Operation}
 use Rattle.object_sweep.specs.declared.configuration.Configuration.{Configuration}
-use Rattle.object_sweep.specs.inner.Cuts.{EndsAt, IsCut}
+use Rattle.object_sweep.specs.inner.Cuts.{EndsAt, IsLogCut}
 use Rattle.object_sweep.specs.inner.Steps.{AnyCanFinish, AreExplored, AreSound, AreStarted, AreUnderWay, IsAdded, IsClosed}
 use Rattle.object_sweep.specs.inner.Steps.{IsCopyAt, IsExplored, IsGrown, IsHandled, IsIdle, IsLeftOut, IsMadeOf, IsPassed, IsPureNext}
 use Rattle.object_sweep.specs.inner.Steps.{IsPut, IsPutIn, IsSorted, IsSureAndPure, IsTried, IsVisited, made_by}
@@ -532,7 +532,7 @@ module _ {S W : Type 0} (after : S → W → Option S) (log : List (Operation W)
     where
       complete : (opening : S) (ended : List ℕ) (end : ℕ) → RunForwards log → IsNextEnd log ended ending end →
           AreUnderWay log under_way ended end → AreReachable after opening log ended configurations →
-          (cut : List (Operation W)) → IsCut log cut → EndsAt cut ending end →
+          (cut : List (Operation W)) → IsLogCut log cut → EndsAt cut ending end →
           AnyCanFinish after cut ended configurations → AnyCanFinish after cut (ending ∷ ended) kept
       complete opening ended end forwards next way reached cut is ends any = by_in (cases_Bool (is_in ending any.1.placed.items))
         where

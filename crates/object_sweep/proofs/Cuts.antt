@@ -7,8 +7,8 @@ use Rattle.object_core.specs.declared.operation.Operation.{Operation}
 use Rattle.object_core.specs.Logs.{is_due}
 use Rattle.object_sweep.specs.declared.configuration.Configuration.{Configuration}
 use Rattle.object_sweep.specs.Cuts.{cut_log, without_end}
-use Rattle.object_sweep.specs.inner.Cuts.{EndsAt, IsCut, IsCutOf, KeepsEnds}
-use Rattle.object_sweep.specs.inner.Steps.{AreUnderWay, IsFirst, IsHandled, IsIdle, IsPlacedFor, IsPure, made_by}
+use Rattle.object_sweep.specs.inner.Cuts.{EndsAt, IsLogCut, IsCutOf, KeepsEnds}
+use Rattle.object_sweep.specs.inner.Steps.{AreUnderWay, EndsFirst, IsHandled, IsIdle, IsPlacedFor, IsPure, made_by}
 use Rattle.object_sweep.specs.inner.Steps.{may_be_left_out, maybe_of, MayStandFor, step_from}
 use Rattle.object_sweep.specs.inner.Steps.IsHandled.{Tries, Places as PlacesPure}
 use Rattle.object_sweep.specs.Reached.{is_in, IsNextEnd, IsReachable, MayBeLeftOut}
@@ -17,14 +17,14 @@ use Rattle.object_sweep.specs.Rests.{NoOpenEndBefore, RunForwards}
 use Rattle.object_sweep.proofs.Placed.{or_right, same_number}
 
 -- the whole log is one
-pub whole : {W : Type 0} (log : List (Operation W)) → IsCut log log
+pub whole : {W : Type 0} (log : List (Operation W)) → IsLogCut log log
 whole log = record {
   each = λ q o at. (o, at, record { starts = refl; maybe = refl; what = refl; ends = λ end e. e });
   from = λ q o at. (o, at, record { starts = refl; maybe = refl; what = refl; ends = λ end e. e });
   earlier = λ p q at end h g le first. h;
 }
 
-module _ {W : Type 0} (log cut : List (Operation W)) (is : IsCut log cut) where
+module _ {W : Type 0} (log cut : List (Operation W)) (is : IsLogCut log cut) where
   -- at one place
   pub cut_at : (q : ℕ) (o c : Operation W) → slice_get log q ≡ Some o → slice_get cut q ≡ Some c → IsCutOf o c
   cut_at q o c qo qc =
@@ -150,7 +150,7 @@ module _ {W : Type 0} (log cut : List (Operation W)) (is : IsCut log cut) where
             let whole_due : is_due a ≡ true = h.due (due_before b d b_of e) in
             due_with c mine.0 a.maybe mine.1 (and_parts (is_some a.ends) (not a.maybe) whole_due).1 (sym a_of.maybe)
 
-        first_there : IsFirst p q c.ends d.ends
+        first_there : EndsFirst p q c.ends d.ends
         first_there at e f = first at (a_of.ends at e) (b_of.ends at f)
 
     cut_may : (p q : ℕ) (t s : S) → made_by after s (slice_get cut q) ≡ Some t → MayStandFor after p q (slice_get log p) (slice_get log q) →
@@ -301,7 +301,7 @@ module _ {W : Type 0} (log : List (Operation W)) (ended : List ℕ) where
       let f = get_from (λ q. is_in q ended) log q c at in
       ap (λ (z : Operation W). z.ends) (sym f.2) ∙ no_end (is_in q ended) f.0 h
 
-  pub so_far_is_cut : AreFirst log ended → IsCut log so_far
+  pub so_far_is_cut : AreFirst log ended → IsLogCut log so_far
   so_far_is_cut first = record { each = each; from = from; earlier = earlier }
     where
       each : (q : ℕ) (o : Operation W) → slice_get log q ≡ Some o → (c : Operation W) × (slice_get so_far q ≡ Some c) × IsCutOf o c

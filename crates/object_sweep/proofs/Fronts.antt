@@ -10,7 +10,7 @@ use Rattle.object_sweep.specs.declared.configuration.Configuration.{Configuratio
 use Rattle.object_sweep.specs.declared.event.Event.{Event}
 use Rattle.object_sweep.specs.declared.log_sweep.Verdict.{Verdict}
 use Rattle.object_sweep.specs.declared.log_sweep.Verdict.TheVariants.{Lawful, Unlawful, TooMany}
-use Rattle.object_sweep.specs.inner.Cuts.{EndsAt, IsCut, KeepsEnds}
+use Rattle.object_sweep.specs.inner.Cuts.{EndsAt, IsLogCut, KeepsEnds}
 use Rattle.object_sweep.specs.inner.Ends.{AreAlwaysTooMany, IsEventPassed}
 use Rattle.object_sweep.specs.inner.Events.{AreEvents, begins, ends, IsEventAmong, IsEvent, IsOpened, IsFrontBehind, ComesNoLater}
 use Rattle.object_sweep.specs.inner.Steps.{AnyCanFinish, AreUnderWay, IsPassed}
@@ -325,7 +325,7 @@ module _ {S W : Type 0} (after : S → W → Option S) (opening : S) (log : List
 
     -- nothing is kept
     none_of : e.ends ≡ true → is_in e.place under_way ≡ true → IsPassed after log under_way e.place held [] →
-        (cut : List (Operation W)) → IsCut log cut → KeepsEnds log cut (e.place ∷ front.ended) → ¬ IsLinearizable after opening cut
+        (cut : List (Operation W)) → IsLogCut log cut → KeepsEnds log cut (e.place ∷ front.ended) → ¬ IsLinearizable after opening cut
     none_of ends_it h passed cut is keeps l =
         let ends_then : EndsAt log e.place e.at = let n = next_at ends_it h in (n.0, n.1, n.2) in
         let a = passed.complete opening front.ended e.at forwards (next_at ends_it h) (way_at ends_it) front.reached cut is
@@ -381,7 +381,7 @@ module _ {S W : Type 0} (after : S → W → Option S) (opening : S) (log : List
         cut : List (Operation W)
         cut = so_far log (e.place ∷ front.ended)
 
-        is : IsCut log cut
+        is : IsLogCut log cut
         is = so_far_is_cut log (e.place ∷ front.ended) (first_ended ends_it)
 
         b : IsBeforeEnd after opening log front.ended e.place
@@ -492,7 +492,7 @@ module _ {S W : Type 0} (after : S → W → Option S) (opening : S) (log : List
           subst P (same_Some one other at) (subst Q (sym first.1.2) (subst R (sym first.1.3) Opens))
       reached (suc i) other at = cc
 
-      complete : (cut : List (Operation W)) → IsCut log cut → KeepsEnds log cut [] → IsLinearizable after opening cut →
+      complete : (cut : List (Operation W)) → IsLogCut log cut → KeepsEnds log cut [] → IsLinearizable after opening cut →
           AnyCanFinish after cut [] (one ∷ [])
       complete cut is keeps l =
           let Q : S → Type 0 = λ z. CanFinish after cut (is_closed [] one.placed.items) z in

@@ -62,7 +62,7 @@ module _ {S W : Type 0} (after : S → W → Option S) (opening : S) (log : List
           without place placed,
           Ends ended placed s r place end next (inr (f.0, f.1, maybe)),
           same_finish after cut (λ z. is_closed ended placed z || nat_eq z place) (is_closed (place ∷ ended) (without place placed))
-          (λ z. sym (closed_left_out ended placed place z lack)) s d.1,
+              (λ z. sym (closed_left_out ended placed place z lack)) s d.1,
         )
       where
         open_yet : (a b : Bool) → a ≡ false → b ≡ false → (a || b) ≡ false
@@ -77,7 +77,7 @@ module _ {S W : Type 0} (after : S → W → Option S) (opening : S) (log : List
         without place placed,
         Ends ended placed s r place end next (inl e),
         same_finish after cut (is_closed ended placed) (is_closed (place ∷ ended) (without place placed))
-        (λ z. sym (closed_behind ended placed place z e)) s (rest, h),
+            (λ z. sym (closed_behind ended placed place z e)) s (rest, h),
       )
       | inr e ↦ elim (cases_lt 0 (times_of place rest)) [
         | inl l ↦ more l

@@ -5,7 +5,7 @@ ghost use Rattle.std.specs.Prelude.{IfSome, IsTrue, OnOk};
 ghost use Rattle.object_core.specs.declared.operation.Operation.{Operation};
 ghost use Rattle.object_sweep.specs.Reached.{is_in};
 ghost use Rattle.object_sweep.specs.inner.Ends.{AreAlwaysTooMany};
-ghost use Rattle.object_sweep.specs.inner.Steps.{AreStarted, IsClosed, IsCopyAt, IsExplored, IsFirst, IsIdle};
+ghost use Rattle.object_sweep.specs.inner.Steps.{AreStarted, IsClosed, IsCopyAt, IsExplored, EndsFirst, IsIdle};
 ghost use Rattle.object_sweep.specs.inner.Steps.{IsLeftOut, IsPassed, IsPureNext, IsPut, IsSorted, IsSureAndPure};
 ghost use Rattle.object_sweep.specs.inner.Steps.{IsInPlaceOf, IsTried, IsVisited, may_be_left_out};
 ghost use Rattle.object_sweep.specs.inner.Steps.{MayStandFor, StandsInFor, step_from};
@@ -143,7 +143,7 @@ fn is_in_place_of<O: Object>(one: &Operation<O::What>, other: &Operation<O::What
 
 /// Of ends at one moment that of the lower place comes first.
 fn comes_first(end: Option<u64>, other: Option<u64>, place: usize, other_place: usize) -> bool
-    ensures { IsTrue result → IsFirst place other_place end other }
+    ensures { IsTrue result → EndsFirst place other_place end other }
 {
     end != other || place <= other_place
 }

@@ -16,7 +16,7 @@ module _ {W : Type 0} where
     pub ends : (at : ℕ) → cut.ends ≡ Some at → o.ends ≡ Some at
 
   -- the same operations; with an end those have theirs that come before it, at one moment in the order of places
-  pub record IsCut (log cut : List (Operation W)) : Type 0 where
+  pub record IsLogCut (log cut : List (Operation W)) : Type 0 where
     pub each : (q : ℕ) (o : Operation W) → slice_get log q ≡ Some o →
         (c : Operation W) × (slice_get cut q ≡ Some c) × IsCutOf o c
     pub from : (q : ℕ) (c : Operation W) → slice_get cut q ≡ Some c →

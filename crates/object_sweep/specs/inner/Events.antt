@@ -4,7 +4,7 @@ use Rattle.object_core.specs.declared.operation.Operation.{Operation}
 use Rattle.object_core.specs.Logs.{IsLinearizable}
 use Rattle.object_sweep.specs.declared.configuration.Configuration.{Configuration}
 use Rattle.object_sweep.specs.declared.event.Event.{Event}
-use Rattle.object_sweep.specs.inner.Cuts.{IsCut, KeepsEnds}
+use Rattle.object_sweep.specs.inner.Cuts.{IsLogCut, KeepsEnds}
 use Rattle.object_sweep.specs.inner.Steps.{AnyCanFinish}
 use Rattle.object_sweep.specs.Reached.{AreReachable, is_in}
 
@@ -66,6 +66,6 @@ module _ {S W : Type 0} where
         × (is_in q ended ≡ false)
     pub all_begun : (q at : ℕ) → IsEventAmong (begins at q) done → is_in q ended ≡ false → is_in q under_way ≡ true
     pub reached : AreReachable after opening log ended configurations
-    pub complete : (cut : List (Operation W)) → IsCut log cut → KeepsEnds log cut ended →
+    pub complete : (cut : List (Operation W)) → IsLogCut log cut → KeepsEnds log cut ended →
         IsLinearizable after opening cut → AnyCanFinish after cut ended configurations
     pub some : 0 < length configurations

@@ -8,7 +8,7 @@ use Rattle.object_sweep.specs.declared.configuration.Configuration.{Configuratio
 use Rattle.object_sweep.specs.Reached.{AreApart, AreReachable, is_closed, is_in, IsHeld, IsNextEnd, IsReachable}
 use Rattle.object_sweep.specs.Reached.{without}
 use Rattle.object_sweep.specs.Rests.{CanFinish, RunForwards}
-use Rattle.object_sweep.specs.inner.Cuts.{EndsAt, IsCut}
+use Rattle.object_sweep.specs.inner.Cuts.{EndsAt, IsLogCut}
 
 module _ {S : Type 0} where
   -- it has the very list of places
@@ -82,8 +82,8 @@ pub record AreUnderWay {W : Type 0} (log : List (Operation W)) (under_way ended 
       is_in q under_way ≡ true
 
 -- of two that end at one moment that at the lower place ends first
-abbrev pub IsFirst : ℕ → ℕ → Option ℕ → Option ℕ → Type 0
-IsFirst p q end other = (at : ℕ) → end ≡ Some at → other ≡ Some at → p ≤ q
+abbrev pub EndsFirst : ℕ → ℕ → Option ℕ → Option ℕ → Type 0
+EndsFirst p q end other = (at : ℕ) → end ≡ Some at → other ≡ Some at → p ≤ q
 
 module _ {S W : Type 0} where
   -- the state after one more operation, if it can be placed
@@ -125,7 +125,7 @@ module _ {S W : Type 0} where
     pub sooner : (end : ℕ) → b.ends ≡ Some end → (at : ℕ) × (a.ends ≡ Some at) × (at ≤ end)
 
   abbrev pub MayStandFor : (S → W → Option S) → ℕ → ℕ → Option (Operation W) → Option (Operation W) → Type 0
-  MayStandFor after p q (Some a) (Some b) = IsInPlaceOf after a b × IsFirst p q a.ends b.ends
+  MayStandFor after p q (Some a) (Some b) = IsInPlaceOf after a b × EndsFirst p q a.ends b.ends
   MayStandFor after p q (Some a) None = ⊥
   MayStandFor after p q None b = ⊥
 
@@ -233,5 +233,5 @@ module _ {S W : Type 0} where
         AreReachable after opening log ended configurations → AreReachable after opening log (ending ∷ ended) kept
     pub complete : (opening : S) (ended : List ℕ) (end : ℕ) → RunForwards log → IsNextEnd log ended ending end →
         AreUnderWay log under_way ended end → AreReachable after opening log ended configurations →
-        (cut : List (Operation W)) → IsCut log cut → EndsAt cut ending end →
+        (cut : List (Operation W)) → IsLogCut log cut → EndsAt cut ending end →
         AnyCanFinish after cut ended configurations → AnyCanFinish after cut (ending ∷ ended) kept
