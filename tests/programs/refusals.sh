@@ -3,6 +3,11 @@
 # document as well. Documents that are too long for a line are made here. All but races go through the program that has their command alone,
 # too.
 
+# Whether the document begins with the header of a log in lines: then all of it is read.
+begins_lines() {
+    [ "$(head -n 1 "$room/document" | wc -c)" -le 1048577 ] && head -c 15 "$room/document" | grep -q '^{"kind":"lines"'
+}
+
 # Runs a program with these words on the document in $room/document. Sees that it ends with the wanted status, tells what stands in
 # $room/wanted on the one stream and nothing on the other, and leaves of the document what is beyond the longest and one byte more.
 #   ends PROGRAM WORDS..
@@ -15,6 +20,7 @@ ends() {
         left=$(wc -c)
     } <"$room/document"
     beyond=$(($(wc -c <"$room/document") - 1048577))
+    ! begins_lines || beyond=0
     [ "$status" = "$wanted_status" ] && cmp -s "$room/$stream" "$room/wanted" && [ ! -s "$room/$other" ] &&
         [ $((left)) = $((beyond > 0 ? beyond : 0)) ]
 }
