@@ -1,8 +1,10 @@
 /* What a make takes is what the header says beforehand: a block of just so many bytes, given out in just so many parts, serves it. If a byte or a
- * request is missing, memory was refused, and all that was taken is given back. */
+ * request is missing, memory was refused, and all that was taken is given back. No word of it leads to the maker's stack, which other processes
+ * would see in shared memory. */
 #include "nidzaru.h"
 #include <stdio.h>
 #include <stdlib.h>
+#include <string.h>
 
 enum { MOST = 13 << 20 };
 
@@ -31,12 +33,26 @@ static void check(int holds, const char *name, size_t count, const char *what) {
     printf("FAILED: %s, %zu: %s\n", name, count, what);
 }
 
+/* How many words of what was taken lead to the stack, at whose beginning this address lies. */
+static uintptr_t stack_begins;
+
+static size_t words_to_stack(void) {
+    size_t found = 0;
+    for (size_t at = 16; at + 8 <= 16 + taken; at += 8) {
+        uint64_t word;
+        memcpy(&word, memory + at, sizeof word);
+        found += word <= stack_begins && stack_begins - word < 8 << 20;
+    }
+    return found;
+}
+
 /* Begins a make that has so many bytes and requests. */
 static void begin(size_t bytes, size_t requests) {
     if (bytes > MOST) {
         printf("FAILED: %zu bytes are more than this test has\n", bytes);
         exit(1);
     }
+    memset(memory, 0, 16 + bytes);
     room = bytes;
     requests_left = requests;
     taken = asked = live = 0;
@@ -49,6 +65,7 @@ static void see(const char *name, size_t count, size_t bytes, size_t requests, i
     check(taken == bytes, name, count, "it takes fewer bytes than it says");
     check(asked == requests, name, count, "it asks less often than it says");
     check(!live, name, count, "a block stays");
+    check(!words_to_stack(), name, count, "an address of the stack stays");
     begin(bytes - 1, requests);
     check(use(count) == NIDZARU_NO_MEMORY, name, count, "it is made of a byte less");
     check(!live, name, count, "a block stays of a make that lacked a byte");
@@ -131,6 +148,11 @@ EACH_BOARD_SIZE(DEFINE_BOARD)
 #define SEE_BOTH_BOARDS(size) SEE_BOARD(board##size) SEE_BOARD(triple_board##size)
 
 int main(void) {
+    int here = 0;
+    stack_begins = (uintptr_t)&here;
+    taken = 8;
+    memcpy(memory + 16, &stack_begins, sizeof stack_begins);
+    check(words_to_stack() == 1, "the control", 1, "an address of the stack isn't seen");
     EACH_SIZE(SEE_BOTH)
     EACH_FAN(SEE_BOTH_FANS)
     EACH_BOARD_SIZE(SEE_BOTH_BOARDS)

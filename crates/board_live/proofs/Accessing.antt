@@ -12,9 +12,11 @@ use Rattle.cell_contract.specs.declared.times.Times.{Times}
 use Rattle.cell_contract.specs.Running.{last_or}
 use Rattle.cell_contract.specs.declared.family.Family.{Ghosts as FamilyWords}
 use Rattle.cell_contract.specs.Accesses.{IsAccess, IsWriteAccess, KeepsEach, KeepsOthers, ReadAccesses, RisesAfter as Later, WriteAccesses}
-use Rattle.cell_contract.specs.Rows.{OneByOne, IsReadFrom, IsWriteTo}
+use Rattle.cell_contract.specs.Rows.{OneByOne, IsReadFrom, IsWriteTo, SeesNew}
 use Rattle.cell_contract.specs.Rows.OneByOne.{no_call, one_more}
+use Rattle.matrix_core.specs.Choices.{IsAtMost}
 use Rattle.matrix_core.specs.Lines.{other}
+use Rattle.matrix_core.proofs.choices.Stamps.{at_most_trans}
 use Rattle.matrix_core.proofs.lines.Others.{other_above, other_below}
 use Rattle.board_history.specs.Accesses.{IsInterval}
 use Rattle.board_history.proofs.Growing.{not_both}
@@ -22,7 +24,7 @@ use Rattle.board_live.specs.declared.record.Posted.{Posted}
 use Rattle.board_live.specs.inner.Calls.{HasReadColumn, HasRow, HasWrittenRow, IsIntervalOf, IsStretch}
 use Rattle.board_live.specs.Passes.{IsFurtherAnswer}
 use Rattle.board_live.specs.Records.{greater, Rises, rises_on}
-use Rattle.board_live.proofs.Records.{greater_either, risen, rises_greater}
+use Rattle.board_live.proofs.Records.{greater_either, not_above, risen, rises_at_most, rises_greater}
 
 pub other_once : (i e r : ℕ) → other i e ≡ other i r → e ≡ r
 other_once i e r h = elim (cases_lt e i) [
@@ -146,13 +148,18 @@ module _ {V F S T : Type 0} (words : FamilyWords F (Posted V) S T) where
   -- a read of one process, as the family has it
   abbrev IsReadOf : (V → Bool) → F → ℕ → S × Posted V → S × Posted V → Type 0
   IsReadOf obeys family = IsReadFrom (words.is_seat family) words.who words.clock words.times words.writes words.reads words.width
-      (words.opening family) (λ p. IsTrue (obeys p.item)) Rises (λ old item new. new ≡ greater old item)
+      (words.opening family) (λ p. IsTrue (obeys p.item)) Rises (SeesNew (λ old item new. new ≡ greater old item))
+
+  -- the record isn't below the last answer of this other process
+  abbrev pub IsNewest : F → ℕ → S → Posted V → ℕ → Type 0
+  IsNewest family process seat own e =
+      IsAtMost (last_or (words.opening family) (words.reads seat (other process e)).answers).stamp own.stamp
 
   pub read_more : (obeys : V → Bool) (family : F) (process count : ℕ) (start now next : S) (own seen seen' : Posted V) →
-      HasReadColumn words obeys family process count start now own seen →
+      HasReadColumn words obeys family process count start now own seen → IsNewest family process start own count →
       IsReadOf obeys family (other process count) (now, seen) (next, seen') →
       HasReadColumn words obeys family process (count + 1) start next own seen'
-  read_more obeys family process count start now next own seen seen' r h = record {
+  read_more obeys family process count start now next own seen seen' r above h = record {
     of = (h.own.0, h.own.1 ∙ r.of.1);
     steps = r.steps ++ h.access.steps;
     long = longer words.width count r.steps h.access.steps r.long h.access.long;
@@ -189,23 +196,40 @@ module _ {V F S T : Type 0} (words : FamilyWords F (Posted V) S T) where
     ];
     unread = λ e l. h.others.0 (other process e) (λ s. let z = other_once process e count s in omega arith) ∙ r.unread e (omega arith);
     writes = λ j. h.others.1 j ∙ r.writes j;
-    sees = h.saw ∙ ap (λ z. greater z h.answer) r.sees ∙ sym (fold-append greater own r.answers (h.answer ∷ []));
-    lawful = subst (λ z. IsTrue (obeys z.item)) (sym h.saw) (greater_either obeys seen h.answer r.lawful h.may.0);
-    rises = subst (λ z. Rises own z) (sym h.saw) (rises_on own seen (greater seen h.answer) r.rises (rises_greater seen h.answer));
+    sees = saw ∙ ap (λ z. greater z h.answer) r.sees ∙ sym (fold-append greater own r.answers (h.answer ∷ []));
+    lawful = subst (λ z. IsTrue (obeys z.item)) (sym saw) (greater_either obeys seen h.answer r.lawful h.may.0);
+    rises = subst (λ z. Rises own z) (sym saw) (rises_on own seen (greater seen h.answer) r.rises (rises_greater seen h.answer));
   }
     where
       some : 0 < words.width
       some = some_steps words.width (words.clock now) (words.clock next) (words.times now) (words.times next)
           (words.reads now (other process count)).times (words.reads next (other process count)).times h.access
 
+      last : Posted V
+      last = last_or (words.opening family) (words.reads now (other process count)).answers
+
+      below : IsAtMost last.stamp seen.stamp
+      below = at_most_trans last.stamp own.stamp seen.stamp
+          (subst (λ z. IsAtMost (last_or (words.opening family) z.answers).stamp own.stamp) (sym (r.unread count (omega arith))) above)
+          (rises_at_most own seen r.rises)
+
+      -- what was left out is no greater
+      saw : seen' ≡ greater seen h.answer
+      saw = elim h.saw [
+        | inl sees ↦ sees
+        | inr same ↦ same.0 ∙ sym (not_above seen h.answer (subst (λ z. IsAtMost z.stamp seen.stamp) (sym same.1) below))
+      ]
+
   -- a column of the family is one of the board
   pub column_read : (obeys : V → Bool) (family : F) (process : ℕ) (start : S) (own : Posted V) → words.is_seat family start →
-      IsTrue (obeys own.item) → (count : ℕ) (now : S × Posted V) → OneByOne (IsReadOf obeys family) process (start, own) count now →
+      IsTrue (obeys own.item) → (count : ℕ) (now : S × Posted V) → ((e : ℕ) → e < count → IsNewest family process start own e) →
+      OneByOne (IsReadOf obeys family) process (start, own) count now →
       HasReadColumn words obeys family process count start now.0 own now.1
-  column_read obeys family process start own is lawful _ _ no_call = nothing_read obeys family process start own is lawful
-  column_read obeys family process start own is lawful _ _ (one_more count now new r call) =
+  column_read obeys family process start own is lawful _ _ above no_call = nothing_read obeys family process start own is lawful
+  column_read obeys family process start own is lawful _ _ above (one_more count now new r call) =
       read_more obeys family process count start now.0 new.0
-      own now.1 new.1 (column_read obeys family process start own is lawful count now r) call
+      own now.1 new.1 (column_read obeys family process start own is lawful count now (λ e l. above e (omega arith)) r)
+      (above count (omega arith)) call
 
   last_of : (first : Posted V) (items : List (Posted V)) (item : Posted V) → last_or first (items ++ item ∷ []) ≡ item
   last_of first [] item = refl

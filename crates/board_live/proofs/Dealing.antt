@@ -1,6 +1,6 @@
 -- The passes of a new board: each has the seat of its place, and nothing was done with it.
 use Rattle.std.proofs.Common.{◌≡◌, Bool, ℕ, zero, suc, ◌+◌, ◌<◌, ◌≤◌, List, [], ◌∷◌, ◌++◌, length, reverse, slice_get, Some}
-use Rattle.std.proofs.Common.{Global, refl, sym, ◌∙◌, ap, subst, arith, append_assoc}
+use Rattle.std.proofs.Common.{Global, append-nil, refl, sym, ◌∙◌, ap, subst, arith, append_assoc}
 use Rattle.std.specs.Prelude.{IsTrue, Vec, vec_capacity}
 use Rattle.std.proofs.lemmas.List.{length_push, reverse-append}
 use Rattle.std.proofs.lemmas.Option.{none-some, same_Some, slice_get_within}
@@ -38,6 +38,13 @@ module _ {V F S T : Type 0} where
     pub done : List S
     pub of : all ≡ left ++ done
     pub are : ArePasses n first (length left) done (reverse made)
+
+  pub none_dealt : (n : ℕ) (first : Posted V) (all : List S) (made : List (Pass V F S T)) → made ≡ [] → DealtFrom n first all all made
+  none_dealt n first all made e = record {
+    done = [];
+    of = sym (append-nil all);
+    are = subst (λ z. ArePasses n first (length all) [] (reverse z)) (sym e) tt;
+  }
 
   pub dealt_more : (n : ℕ) (first : Posted V) (all before left : List S) (made : List (Pass V F S T)) (process : ℕ) (seat : S)
       (room : Vec S Global) → DealtFrom n first all before made → before ≡ left ++ seat ∷ [] → process ≡ length left →

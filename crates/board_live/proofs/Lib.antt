@@ -3,6 +3,7 @@ mod Accessing
 mod Calling
 mod Ending
 pub mod Mapping
+mod Newest
 mod Standing
 mod Whole
 mod Dealing

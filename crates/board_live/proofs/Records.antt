@@ -8,7 +8,7 @@ use Rattle.matrix_core.specs.declared.stamp.Stamp.{Stamp}
 use Rattle.matrix_core.specs.Stamps.{greater as greater_stamped, IsBelow, is_below}
 use Rattle.board_live.specs.declared.record.Posted.{Posted}
 use Rattle.matrix_core.specs.Choices.{IsAtMost}
-use Rattle.matrix_core.proofs.choices.Stamps.{at_most_trans, below_itself, greater_second}
+use Rattle.matrix_core.proofs.choices.Stamps.{at_most_below, at_most_trans, below_itself, greater_second}
 use Rattle.matrix_core.specs.Stamps.{greatest as greatest_stamped}
 use Rattle.board_live.specs.Records.{greater, greatest_posted, Rises, rises_itself, rises_on, stamped}
 
@@ -55,6 +55,13 @@ either_greater a b = by a b (is_below a.stamp b.stamp) refl
         ((if t then b else a) ≡ a) ⊎ (((if t then b else a) ≡ b) × IsBelow a.stamp b.stamp)
     by a b true e = inr (refl, below_true a.stamp b.stamp e)
     by a b false e = inl refl
+
+-- one that isn't above changes nothing
+pub not_above : {V : Type 0} (a b : Posted V) → IsAtMost b.stamp a.stamp → greater a b ≡ a
+not_above a b l = elim (either_greater a b) [
+  | inl e ↦ e
+  | inr x ↦ absurd (below_itself b.stamp (at_most_below b.stamp a.stamp b.stamp l x.1))
+]
 
 second_at_most : {V : Type 0} (a b : Posted V) → IsAtMost b.stamp (greater a b).stamp
 second_at_most a b = subst (λ z. IsAtMost b.stamp z.stamp) (sym (stamped_greater a b)) (greater_second (stamped a) (stamped b))

@@ -7,6 +7,7 @@ ghost use Rattle.history_core.specs.declared.history.Kind.TheVariants.{Read};
 ghost use Rattle.board_live.specs.Passes.{ChoosesStamp, IsBounded, IsCall, IsKnown, IsPass, kind_of};
 ghost use Rattle.board_live.specs.Plans.{MakesCalls};
 ghost use Rattle.board_live.specs.SoFar.{HaveAtomicOrderSoFar};
+ghost use Rattle.matrix_core.specs.Choices.{IsAtMost};
 ghost use Rattle.matrix_core.specs.Stamps.{IsBelow};
 ghost use Rattle.board_live.specs.Records.{Rises};
 
@@ -15,7 +16,8 @@ use crate::record::{Posted, RecordLaw};
 use cell_contract::Family;
 use matrix_core::Stamp;
 
-/// Reads what each other process shows, rising, and raises `seen` to the greatest.
+/// Reads what each other process shows, rising, and raises `seen`, which isn't below any of the last answers, to the
+/// greatest. So a family may leave out what is the last answer again.
 #[inline(always)]
 fn column<V: RecordLaw, F: Family<Posted<V>>>(
     family: &F,
@@ -26,6 +28,8 @@ fn column<V: RecordLaw, F: Family<Posted<V>>>(
 )
     requires of { IsOf ⟦<F as Family<Posted<V>>>⟧ family.now processes process seat.old }
     requires lawful { IsTrue (V.obeys seen.old.item) }
+    requires newest { (j : _) → j < processes → j ≢ process →
+        IsAtMost (last_or (F.opening family.now) (F.reads seat.old j).answers).stamp seen.old.stamp }
     requires plan { MayReadEach
         (MakesCalls (F.opening family.now) F.width (F.processes family.now) (F.limit family.now) (F.who seat.old))
         F.width (F.processes family.now) (F.who seat.old)

@@ -1,5 +1,5 @@
 //! Making a board.
-ghost use Rattle.std.specs.Prelude.{◌≡◌, ◌<◌, ◌≤◌, IfOk, IsTrue};
+ghost use Rattle.std.specs.Prelude.{◌≡◌, ◌<◌, ◌≤◌, [], IfOk, IsTrue, vec_capacity};
 ghost use Rattle.matrix_core.specs.Stamps.{first_stamp};
 ghost use Rattle.board_live.specs.Deals.{IsNew, OpensWith};
 
@@ -8,7 +8,6 @@ use crate::record::{Posted, RecordLaw};
 use cell_contract::Family;
 use matrix_core::Stamp;
 use std::alloc::{AllocError, Global};
-use std::mem;
 
 /// Why no board was made. They are tested in this order.
 #[derive(Clone, Copy, Debug, PartialEq, Eq)]
@@ -20,6 +19,14 @@ pub enum BoardError {
     /// The opening breaks its law.
     Opening,
     NoMemory,
+}
+
+/// Room for the seats of all passes, which the last process gets. Another one gets room for one: a list without any
+/// would keep an address of the stack that other processes may see.
+fn room<S>(alloc: Global, last: bool, n: usize) -> Result<Vec<S>, AllocError>
+    ensures { IfOk result (λ room. (IsTrue last → n ≤ vec_capacity room) × (room.items ≡ [])) }
+{
+    Vec::with_capacity(alloc, if last { n } else { 1 })
 }
 
 /// A board with its passes.
@@ -35,11 +42,9 @@ fn deal<V: RecordLaw, F: Family<Posted<V>>>(
     requires within { (1 ≤ limit) × (limit < 18446744073709551615) }
     ensures { IfOk result (λ r. IsNew ⟦<F as Family<Posted<V>>>⟧ V.obeys n limit first r.0 r.1.items) }
 {
-    let room = Vec::with_capacity(alloc, n)?;
     let mut passes = Vec::with_capacity(alloc, n)?;
     let (family, seats) = F::make(alloc, n, limit, first)?;
     let mut seats = seats;
-    let mut room = room;
     for _ in 0..n {
         let Some(seat) = seats.pop() else {
             unreachable!();
@@ -49,7 +54,7 @@ fn deal<V: RecordLaw, F: Family<Posted<V>>>(
             process,
             own: first,
             seat,
-            room: mem::replace(&mut room, Vec::new(alloc)),
+            room: room(alloc, passes.is_empty(), n)?,
         });
     }
     passes.reverse();

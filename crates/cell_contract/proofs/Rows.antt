@@ -46,7 +46,8 @@ module _ {S : Type 0} (Call : ℕ → S → S → Type 0) (is_seat : S → Type 
 
 module _ {S L T : Type 0} (is_seat : S → Type 0) (who clock : S → ℕ) (times : S → List ℕ) (writes : S → ℕ → WriteAccesses T)
     (reads : S → ℕ → ReadAccesses T)
-    (width : ℕ) (opening : T) (fits : T → Type 0) (rises : T → T → Type 0) (sees : L → T → L → Type 0) (process : ℕ) (start : S × L) where
+    (width : ℕ) (opening : T) (fits : T → Type 0) (rises : T → T → Type 0) (sees : T → L → T → L → Type 0) (process : ℕ)
+    (start : S × L) where
   pub column_own : (count : ℕ) (now : S × L) →
       OneByOne (IsReadFrom is_seat who clock times writes reads width opening fits rises sees) process start count now →
       is_seat start.0 → is_seat now.0 × (who now.0 ≡ who start.0)

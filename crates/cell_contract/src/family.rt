@@ -11,7 +11,7 @@ ghost use Rattle.cell_contract.specs.Accesses.{KeepsOthers};
 ghost use Rattle.cell_contract.specs.Plans.{AreSoFar, Doings, doings, HasNoSteps, MayRead};
 ghost use Rattle.cell_contract.specs.Plans.{MayReadEach, MayWrite, MayWriteEach};
 ghost use Rattle.cell_contract.specs.Ends.{Each, EachTwo, IsSchedule, IsAtomicCell};
-ghost use Rattle.cell_contract.specs.Rows.{OneByOne, IsReadFrom, IsWriteTo};
+ghost use Rattle.cell_contract.specs.Rows.{OneByOne, IsReadFrom, IsWriteTo, SeesNew};
 
 use crate::{Kept, Lawful};
 use std::alloc::{AllocError, Global};
@@ -148,19 +148,21 @@ pub trait Family<T: Planned>: Sized + Drop {
             (T.plan (opening self.now) width (processes self.now) (limit self.now) (who seat.old)) width from
             (doings (times seat.old) (writes seat.old) (reads seat.old)) }
         ensures read { IsReadFrom (is_seat self.now) who clock times writes reads width
-            (opening self.now) T.fits T.rises L.sees from (seat.old, seen.old) (seat.new, seen.new) }
+            (opening self.now) T.fits T.rises (λ _. L.sees) from (seat.old, seen.old) (seat.new, seen.new) }
         ensures so_far { AreSoFar (T.plan (opening self.now) width (processes self.now) (limit self.now))
             (opening self.now) (processes self.now) (who seat.new) (times seat.new) (writes seat.new)
             (reads seat.new) };
 
-    /// Shows one record of each other process, rising: the same as so many calls of `read_from`, in fewer instructions.
+    /// Shows one record of each other process, rising: the same as so many calls of `read_from`, in fewer instructions,
+    /// but that a record which is the last answer again may be left out.
     fn read_all_from<L: Sees<T>>(&self, seat: &mut Self::Seat, seen: &mut L)
         requires own { is_seat self.now seat.old }
         requires plan { MayReadEach
             (T.plan (opening self.now) width (processes self.now) (limit self.now) (who seat.old)) width
             (processes self.now) (who seat.old) (doings (times seat.old) (writes seat.old) (reads seat.old)) }
         ensures column { OneByOne
-            (IsReadFrom (is_seat self.now) who clock times writes reads width (opening self.now) T.fits T.rises L.sees)
+            (IsReadFrom (is_seat self.now) who clock times writes reads width (opening self.now) T.fits T.rises
+            (SeesNew L.sees))
             (who seat.old) (seat.old, seen.old) (processes self.now - 1) (seat.new, seen.new) }
         ensures so_far { AreSoFar (T.plan (opening self.now) width (processes self.now) (limit self.now))
             (opening self.now) (processes self.now) (who seat.new) (times seat.new) (writes seat.new)

@@ -69,7 +69,7 @@ module _ {V F S T : Type 0} (words : FamilyWords F (Posted V) S T) (obeys : V �
   abbrev pub ReadsFromShow : Type 0
   ReadsFromShow = (family : F) (opening : Posted V) (from j : ℕ) (old new : S) (before after : List (Posted V)) →
       IsReadFrom (words.is_seat family) words.who words.clock words.times words.writes words.reads words.width opening
-      (λ x. IsTrue (obeys x.item)) Rises (λ xs x ys. ys ≡ xs ++ x ∷ []) from (old, before) (new, after) →
+      (λ x. IsTrue (obeys x.item)) Rises (λ last xs x ys. ys ≡ xs ++ x ∷ []) from (old, before) (new, after) →
       words.is_seat family new × (words.who new ≡ words.who old)
       × IsAccess words.width (words.clock old) (words.clock new) (words.times old) (words.times new)
       (words.reads old from).times (words.reads new from).times

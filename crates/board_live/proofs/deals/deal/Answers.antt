@@ -1,6 +1,7 @@
 -- Each seat has become a pass, in their order.
 use Rattle.std.proofs.Common.{arith, ap, refl, sym, subst, ◌∙◌, ◌≡◌, ◌+◌, ◌∷◌, [], length, length-append, rules}
-use Rattle.board_live.proofs.Dealing.{all_dealt, ArePasses, dealt_more, is_new, IsRoom}
+use Rattle.std.specs.Prelude.{IsTrue, vec_len}
+use Rattle.board_live.proofs.Dealing.{all_dealt, ArePasses, dealt_more, is_new, none_dealt}
 use Rattle.board_live.proofs.Plans.{none_allowed}
 use Rattle.board_live.proofs.deals.deal.Goals as goal
 
@@ -11,16 +12,15 @@ loop-preserved g c =
     let place : c.len-process.result ≡ length left = omega (arith, c.len-process.ensures) in
     let n : length c.loop.seats.items ≡ length left + 1 = ap length c.in-Some.ensures.items ∙ length-append left (c.in-Some.seat ∷ []) in
     let all : length c.in_ok-family.seats.items ≡ c.args.n = omega (arith, c.in_ok-family.ensures.seats.0) in
-    let room : IsRoom c.args.n c.len-process.result c.replace.result =
-    rw c.replace.ensures.value (λ last. h.4 (omega (arith, last, place, n, h.1, all)), h.5) in (
+    let first : c.len-process.result + 1 ≡ c.args.n → IsTrue c.is_empty.result = λ last.
+    let none : vec_len c.loop.passes ≡ 0 = omega (arith, c.loop.passes.ok, last, place, n, h.1, h.2, all) in search (none, rules) in (
       rw c.push_reserved.ensures.items
           (dealt_more c.args.n c.args.first c.in_ok-family.seats.items c.loop.seats.items left c.loop.passes.items c.len-process.result
-          c.in-Some.seat c.replace.result h.0 c.in-Some.ensures.items place room),
+          c.in-Some.seat c.in_ok-room.field-0 h.0 c.in-Some.ensures.items place
+          (λ last. c.in_ok-room.ensures.0 (first last), c.in_ok-room.ensures.1)),
       omega (arith, n, h.1),
       rw c.push_reserved.ensures.items (length-append c.loop.passes.items _ ∙ ap (λ m. m + 1) h.2),
       c.push_reserved.ensures.capacity ∙ h.3,
-      λ e. absurd (omega (arith, e)),
-      ap (λ v. v.items) c.replace.ensures.after ∙ c.new.ensures.items,
     )
 
 pub returns : goal.returns
@@ -36,9 +36,6 @@ returns g c =
     c.in_ok-family.ensures.seats.1 c.in_ok-family.ensures.unused
     (subst (ArePasses c.args.n c.args.first 0 seats.items) (sym c.reverse.ensures.items)
     (all_dealt c.args.n c.args.first seats.items c.loop.seats.items c.loop.passes.items h.0 none))
-
-pub returns-in_err-room : goal.returns-in_err-room
-returns-in_err-room g c = search rules
 
 pub returns-in_err-passes : goal.returns-in_err-passes
 returns-in_err-passes g c = search rules
@@ -57,7 +54,12 @@ pub returns-in_err-family : goal.returns-in_err-family
 returns-in_err-family g c = search rules
 
 pub loop-init : goal.loop-init
-loop-init g c = search rules
+loop-init g c = (
+  none_dealt c.args.n c.args.first c.in_ok-family.seats.items c.in_ok-passes.passes.items c.in_ok-passes.ensures.items,
+  omega arith,
+  ap length c.in_ok-passes.ensures.items,
+  refl,
+)
 
 pub push_reserved-requires : goal.push_reserved-requires
 push_reserved-requires g c = search rules

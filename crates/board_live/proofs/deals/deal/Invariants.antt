@@ -9,4 +9,3 @@ invariant-loop g l =
     DealtFrom l.n l.first l.initial.seats.items l.seats.items l.passes.items
     × (length l.seats.items + l.counter ≡ length l.initial.seats.items) × (length l.passes.items ≡ l.counter)
     × (vec_capacity l.passes ≡ vec_capacity l.initial.passes)
-    × (l.counter ≡ 0 → l.n ≤ vec_capacity l.room) × (l.room.items ≡ [])

@@ -4,6 +4,7 @@ use Rattle.std.proofs.lemmas.List.{length-append}
 use Rattle.history_core.specs.declared.history.Kind.TheVariants.{Read}
 use Rattle.board_live.proofs.Allowed.{may_read, may_write}
 use Rattle.board_live.proofs.Calling.{is_bounded, is_call, is_pass}
+use Rattle.board_live.proofs.Newest.{own_newest}
 use Rattle.board_live.proofs.SoFar.{ordered_so_far}
 use Rattle.board_live.proofs.board.Board.read.Goals as goal
 
@@ -40,6 +41,9 @@ column-requires-clause-of g c = search rules
 
 pub column-requires-clause-lawful : goal.column-requires-clause-lawful
 column-requires-clause-lawful g c = search rules
+
+pub column-requires-clause-newest : goal.column-requires-clause-newest
+column-requires-clause-newest g c = own_newest g.F.Family g.V.RecordLaw.obeys c.args.self.now c.args.pass.now c.requires
 
 pub column-requires-clause-plan : goal.column-requires-clause-plan
 column-requires-clause-plan g c = may_read g.F.Family g.V.RecordLaw.obeys c.args.self.now c.args.pass.now c.requires

@@ -9,6 +9,7 @@ use Rattle.board_live.specs.Records.{or_item}
 use Rattle.board_live.proofs.Accessing.{row_told}
 use Rattle.board_live.proofs.Allowed.{may_read, may_write, write_chooses}
 use Rattle.board_live.proofs.Calling.{is_bounded, is_call, is_pass}
+use Rattle.board_live.proofs.Newest.{own_newest}
 use Rattle.board_live.proofs.Records.{rises_at_most}
 use Rattle.board_live.proofs.SoFar.{ordered_so_far}
 use Rattle.board_live.proofs.board.Board.write.Goals as goal
@@ -111,6 +112,9 @@ column-requires-clause-of g c = search rules
 
 pub column-requires-clause-lawful : goal.column-requires-clause-lawful
 column-requires-clause-lawful g c = search rules
+
+pub column-requires-clause-newest : goal.column-requires-clause-newest
+column-requires-clause-newest g c = own_newest g.F.Family g.V.RecordLaw.obeys c.args.self.now c.args.pass.now c.requires.pass
 
 pub column-requires-clause-plan : goal.column-requires-clause-plan
 column-requires-clause-plan g c = may_read g.F.Family g.V.RecordLaw.obeys c.args.self.now c.args.pass.now c.requires.pass
