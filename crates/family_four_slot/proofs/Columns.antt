@@ -1,7 +1,7 @@
 -- A column on its way: what its next read needs.
-use Rattle.std.proofs.Common.{◌≡◌, ℕ, ◌-◌, ◌<◌, sym, ap, ◌∙◌, subst}
+use Rattle.std.proofs.Common.{◌≡◌, ℕ, ◌-◌, ◌<◌, sym, ap, ◌∙◌, subst, inl}
 use Rattle.cell_contract.specs.Plans.{Doings, doings, MayRead, MayReadEach, ReadsSoFar}
-use Rattle.cell_contract.specs.Rows.{OneByOne, IsReadFrom}
+use Rattle.cell_contract.specs.Rows.{OneByOne, IsReadFrom, SeesNew}
 use Rattle.cell_contract.proofs.Rows.{column_own}
 use Rattle.family_four_slot.specs.declared.family.FourSlotFamily.{FourSlotFamily}
 use Rattle.family_four_slot.specs.Seated.{FourSlotSeat}
@@ -12,9 +12,23 @@ use Rattle.family_table.proofs.Plans.{may_read_after, may_read_before, whole_rea
 use Rattle.family_four_slot.proofs.Rows.{row_room}
 
 module _ {T L : Type 0} (f : FourSlotFamily T) (fits : T → Type 0) (rises : T → T → Type 0) (sees : L → T → L → Type 0) where
-  -- such a read of one process
+  -- such a read of one process, which is seen where it is new
   abbrev pub Read : ℕ → FourSlotSeat T × L → FourSlotSeat T × L → Type 0
-  Read = IsReadFrom (IsSeat f) number_of clock_of times_of writes_of reads_of 3 (opening_of f) fits rises sees
+  Read = IsReadFrom (IsSeat f) number_of clock_of times_of writes_of reads_of 3 (opening_of f) fits rises (SeesNew sees)
+
+  -- a read that is seen each time is one
+  pub seen_new : (from : ℕ) (old new : FourSlotSeat T × L) →
+      IsReadFrom (IsSeat f) number_of clock_of times_of writes_of reads_of 3 (opening_of f) fits rises (λ _. sees) from old new →
+      Read from old new
+  seen_new from old new call = record {
+    own = call.own;
+    access = call.access;
+    answer = call.answer;
+    read = call.read;
+    may = call.may;
+    saw = inl call.saw;
+    others = call.others;
+  }
 
   module _ (start : FourSlotSeat T) (first : L) where
     -- so many of the others were read
@@ -23,8 +37,8 @@ module _ {T L : Type 0} (f : FourSlotFamily T) (fits : T → Type 0) (rises : T 
 
     pub column_seat : (count : ℕ) (now : FourSlotSeat T) (seen : L) → IsSeat f start → Column count (now, seen) →
         IsSeat f now × (number_of now ≡ number_of start)
-    column_seat count now seen own r = column_own (IsSeat f) number_of clock_of times_of writes_of reads_of 3 (opening_of f) fits rises sees
-        (number_of start) (start, first) count (now, seen) r own
+    column_seat count now seen own r = column_own (IsSeat f) number_of clock_of times_of writes_of reads_of 3 (opening_of f) fits rises
+        (SeesNew sees) (number_of start) (start, first) count (now, seen) r own
 
     pub column_cell : (count : ℕ) (now : FourSlotSeat T) (seen : L) → IsSeat f start → Column count (now, seen) → (cell from : ℕ) →
         cell ≡ place start.processes from start.who → cell ≡ place now.processes from now.who
@@ -38,8 +52,8 @@ module _ {T L : Type 0} (f : FourSlotFamily T) (fits : T → Type 0) (rises : T 
         (doings (times_of start) (writes_of start) (reads_of start))) (own : IsSeat f start) where
       so_far : (count : ℕ) (now : FourSlotSeat T × L) → Column count now → OneByOne (ReadsSoFar 3 3) start.who
           (doings (times_of start) (writes_of start) (reads_of start)) count (doings (times_of now.0) (writes_of now.0) (reads_of now.0))
-      so_far count now r = whole_reads (IsSeat f) number_of clock_of times_of writes_of reads_of 3 (opening_of f) fits rises sees start.who
-          (start, first) count now r
+      so_far count now r = whole_reads (IsSeat f) number_of clock_of times_of writes_of reads_of 3 (opening_of f) fits rises
+          (SeesNew sees) start.who (start, first) count now r
 
       low : start.who < processes_of f
       low = subst (λ z. start.who < z) own.processes (row_room f start own).1

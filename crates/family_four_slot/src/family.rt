@@ -138,7 +138,7 @@ impl<T: Planned> FourSlotFamily<T> {
             (T.plan (opening_of self.now) 3 (processes_of self.now) (limit_of self.now) (number_of seat.old)) 3 from
             (doings (times_of seat.old) (writes_of seat.old) (reads_of seat.old)) }
         ensures read { IsReadFrom (IsSeat self.now) number_of clock_of times_of writes_of reads_of 3
-            (opening_of self.now) T.fits T.rises L.sees from
+            (opening_of self.now) T.fits T.rises (λ _. L.sees) from
             (seat.old, seen.old) (seat.new, seen.new) }
         ensures so_far { SeatShowsAll T.plan self.now seat.new }
     {

@@ -41,7 +41,7 @@ module _ {S T : Type 0} (is_seat : S → Type 0) (who clock : S → ℕ) (times 
   whole_writes item = each_as (λ z. doings (times z) (writes z) (reads z))
       (IsWriteTo is_seat who clock times writes reads width item) (WritesSoFar width width item) (whole_write item)
 
-  module _ {L : Type 0} (opening : T) (fits : T → Type 0) (rises : T → T → Type 0) (sees : L → T → L → Type 0) where
+  module _ {L : Type 0} (opening : T) (fits : T → Type 0) (rises : T → T → Type 0) (sees : T → L → T → L → Type 0) where
     -- a whole read has made all its steps, and has its answer
     pub whole_read : (from : ℕ) (old new : S × L) →
         IsReadFrom is_seat who clock times writes reads width opening fits rises sees from old new →

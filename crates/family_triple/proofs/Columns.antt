@@ -1,7 +1,7 @@
 -- A column on its way: what its next read needs.
 use Rattle.std.proofs.Common.{◌≡◌, ℕ, ◌-◌, ◌<◌, sym, ap, ◌∙◌, subst}
 use Rattle.cell_contract.specs.Plans.{Doings, doings, MayRead, MayReadEach, ReadsSoFar}
-use Rattle.cell_contract.specs.Rows.{OneByOne, IsReadFrom}
+use Rattle.cell_contract.specs.Rows.{OneByOne, IsReadFrom, SeesNew}
 use Rattle.cell_contract.proofs.Rows.{column_own}
 use Rattle.family_triple.specs.declared.family.TripleFamily.{TripleFamily}
 use Rattle.family_triple.specs.Seated.{TripleSeat}
@@ -12,9 +12,9 @@ use Rattle.family_table.proofs.Plans.{may_read_after, may_read_before, whole_rea
 use Rattle.family_triple.proofs.Rows.{row_room}
 
 module _ {T L : Type 0} (f : TripleFamily T) (fits : T → Type 0) (rises : T → T → Type 0) (sees : L → T → L → Type 0) where
-  -- such a read of one process
+  -- such a read of one process, which is seen where it is new
   abbrev pub Read : ℕ → TripleSeat T × L → TripleSeat T × L → Type 0
-  Read = IsReadFrom (IsSeat f) number_of clock_of times_of writes_of reads_of 1 (opening_of f) fits rises sees
+  Read = IsReadFrom (IsSeat f) number_of clock_of times_of writes_of reads_of 1 (opening_of f) fits rises (SeesNew sees)
 
   module _ (start : TripleSeat T) (first : L) where
     -- so many of the others were read
@@ -23,8 +23,8 @@ module _ {T L : Type 0} (f : TripleFamily T) (fits : T → Type 0) (rises : T �
 
     pub column_seat : (count : ℕ) (now : TripleSeat T) (seen : L) → IsSeat f start → Column count (now, seen) →
         IsSeat f now × (number_of now ≡ number_of start)
-    column_seat count now seen own r = column_own (IsSeat f) number_of clock_of times_of writes_of reads_of 1 (opening_of f) fits rises sees
-        (number_of start) (start, first) count (now, seen) r own
+    column_seat count now seen own r = column_own (IsSeat f) number_of clock_of times_of writes_of reads_of 1 (opening_of f) fits rises
+        (SeesNew sees) (number_of start) (start, first) count (now, seen) r own
 
     pub column_cell : (count : ℕ) (now : TripleSeat T) (seen : L) → IsSeat f start → Column count (now, seen) → (cell from : ℕ) →
         cell ≡ place start.processes from start.who → cell ≡ place now.processes from now.who
@@ -38,8 +38,8 @@ module _ {T L : Type 0} (f : TripleFamily T) (fits : T → Type 0) (rises : T �
         (doings (times_of start) (writes_of start) (reads_of start))) (own : IsSeat f start) where
       so_far : (count : ℕ) (now : TripleSeat T × L) → Column count now → OneByOne (ReadsSoFar 1 1) start.who
           (doings (times_of start) (writes_of start) (reads_of start)) count (doings (times_of now.0) (writes_of now.0) (reads_of now.0))
-      so_far count now r = whole_reads (IsSeat f) number_of clock_of times_of writes_of reads_of 1 (opening_of f) fits rises sees start.who
-          (start, first) count now r
+      so_far count now r = whole_reads (IsSeat f) number_of clock_of times_of writes_of reads_of 1 (opening_of f) fits rises
+          (SeesNew sees) start.who (start, first) count now r
 
       low : start.who < processes_of f
       low = subst (λ z. start.who < z) own.processes (row_room f start own).1

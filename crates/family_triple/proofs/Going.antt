@@ -1,15 +1,17 @@
 -- What the steps of a call need, of a seat that is one of the family's, and what a whole call makes of it.
-use Rattle.std.proofs.Common.{◌≡◌, ◌≢◌, ℕ, ◌+◌, ◌-◌, ◌*◌, ◌<◌, List, [], ◌∷◌, ◌++◌, length, get_or, set, refl, sym, ap, ◌∙◌, subst, arith}
+use Rattle.std.proofs.Common.{◌≡◌, ◌≢◌, Bool, ℕ, ◌+◌, ◌-◌, ◌*◌, ◌<◌, List, [], ◌∷◌, ◌++◌, length, get_or, set, refl, sym, ap, ◌∙◌}
+use Rattle.std.proofs.Common.{subst, arith}
 use lib.ListN.{get_elem?}
 use mathlib.Core.Option.{some}
 use Rattle.atomic_table.specs.Table.{Me}
-use Rattle.cell_contract.specs.Running.{held_slots, IsAnswer}
+use Rattle.cell_contract.specs.Running.{held_slots, IsAnswer, last_or}
 use Rattle.cell_contract.specs.declared.sight.Sight.TheVariants.{Spent, Writer, Reader}
 use Rattle.cell_triple.specs.declared.notes.WriterNotes.{WriterNotes}
 use Rattle.cell_triple.specs.declared.notes.ReaderNotes.{ReaderNotes}
 use Rattle.cell_triple.specs.Steps.{TripleSight, published, answered}
 use Rattle.cell_contract.specs.Accesses.{IsAccess, IsReadAccess, IsWriteAccess, KeepsEach, KeepsOthers, ReadAccesses}
 use Rattle.cell_contract.specs.Plans.{Doings, doings, MayRead, MayWrite}
+use Rattle.cell_contract.proofs.ListLaws.{last_snoc}
 use Rattle.family_table.specs.declared.notes.Process.{Process}
 use Rattle.family_table.specs.declared.notes.View.{View}
 use Rattle.family_table.specs.declared.notes.View.TheVariants.{Has}
@@ -137,6 +139,12 @@ module _ {T : Type 0} where
           subst (λ (z : T × ReadAccesses T). IsAnswer fits rises z.0 z.1.answers z.1.told x)
           (λ i. ((column_at.opened ∙ own.opening) i, sym seen i)) h
 
+      -- the record at hand is the last answer, as contracts see what was read before
+      pub column_last : column_at.notes.at_hand.value ≡ last_or (opening_of f) (reads_of s j).answers
+      column_last =
+          let seen = sees_reads s.spare s.processes (known_by s) j column_at.notes apart column_at.is in
+          column_at.last ∙ ap (λ (z : T × ReadAccesses T). last_or z.0 z.1.answers) (λ i. (own.opening i, sym seen i))
+
     -- the process has its cells
     cells : HasCells s.processes (known_by s).who (known_by s)
     cells = record {
@@ -216,14 +224,14 @@ module _ {T : Type 0} where
 
     -- a whole read
     pub has_read : (cell : ℕ) → cell ≡ place s.processes j s.who → j < 16 → (fits : T → Type 0) (rises : T → T → Type 0) (cs : List (ℕ × T))
-        (m : Me T (View (TripleSight T))) (slot : ℕ) (s' : TripleSeat T) →
-        (h : HasLooked fits rises cell (known_by s) column_at.notes cs m slot) →
+        (m : Me T (View (TripleSight T))) (slot : ℕ) (marked : Bool) (s' : TripleSeat T) →
+        (h : HasLooked fits rises cell (known_by s) column_at.notes cs m slot marked) →
         s'.seat.inner.me.0 ≡ m.0 →
         Replaced s.seat.inner.me.1 s'.seat.inner.me.1 ((s.processes - 1) + among s.who j) (slot_at cell slot, h.answer) →
         IsRotated (held_slots ((slot_at cell slot, h.answer) ∷ cs)) (held_slots s'.seat.inner.me.1) →
         s'.seat.inner.table_id ≡ s.seat.inner.table_id → s'.spare ≡ s.spare → s'.processes ≡ s.processes → s'.who ≡ s.who →
         s'.stored.fills ≡ s.stored.fills → s'.stored.reads ≡ set s.stored.reads j slot → HasRead f s s' j h.answer
-    has_read cell at few fits rises cs m slot s' h me new turned table spare processes who kept found =
+    has_read cell at few fits rises cs m slot marked s' h me new turned table spare processes who kept found =
         let o : T = s.spare in
         let n : ℕ = s.processes in
         let v : Process (TripleSight T) = known_by s in
@@ -237,7 +245,8 @@ module _ {T : Type 0} where
         let now : s'.seat.inner.me.0 ≡ Has (u ∷ []) = me ∙ (h.view ∙ ap (λ z. Has (knows Spent v z (Reader q) h.time held ∷ [])) is_cell) in
         let rest = rest_read o n v s.stored.fills s.stored.reads (set s.stored.reads j slot) s.seat.inner.me.1 s'.seat.inner.me.1 j q h.time
         (v.times ++ h.time ∷ []) held
-        within apart own.rest (h.kept.0 ∙ column.took) refl (h.kept.1 ∙ column.opened) (subst (λ z. z < 3) (sym h.took.0) h.took.2)
+        within apart own.rest (h.kept.0 ∙ column.took) refl (h.kept.1 ∙ column.opened)
+        (h.took.1 ∙ sym (last_snoc o h.notes.answers h.answer)) (subst (λ z. z < 3) (sym h.took.0) h.took.2)
         (set_long s.stored.reads j slot) (get_set_here s.stored.reads j slot 0 (omega arith) ∙ sym h.took.0)
         (λ i ne. get_set_else s.stored.reads j i slot 0 ne)
         (subst (λ (z : ℕ × ℕ × ℕ × T). Replaced s.seat.inner.me.1 s'.seat.inner.me.1 ((n - 1) + among z.0 j) (slot_at z.1 z.2, z.3))

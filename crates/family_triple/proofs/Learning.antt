@@ -63,6 +63,7 @@ module _ {T : Type 0} where
       low = h.low;
       numbered = h.numbered;
       slot = h.slot;
+      last = h.last;
     }
     of_notes g Spent h = again h
     of_notes g (Writer q) h = again h

@@ -3,7 +3,7 @@ use Rattle.std.proofs.Common.{◌≡◌, ◌≢◌, ℕ, ◌+◌, ◌*◌, ◌-�
 use Rattle.std.proofs.lemmas.Bool.{cases_eq}
 use mathlib.Core.Option.{some}
 use lib.ListN.{get_elem?}
-use Rattle.cell_contract.specs.Running.{held_slots}
+use Rattle.cell_contract.specs.Running.{held_slots, last_or}
 use Rattle.cell_contract.specs.declared.sight.Sight.TheVariants.{Spent, Writer, Reader}
 use Rattle.cell_triple.specs.declared.notes.WriterNotes.{WriterNotes}
 use Rattle.cell_triple.specs.declared.notes.ReaderNotes.{ReaderNotes}
@@ -95,16 +95,18 @@ module _ {T : Type 0} (o : T) (n : ℕ) where
               numbered = old.numbered;
               slot = new.others ((n - 1) + among v.who i) (λ (e : (n - 1) + among v.who i ≡ among v.who j). absurd (omega arith))
                   ∙ old.slot;
+              last = old.last;
             };
       }
 
   -- and after a read from process j
   pub rest_read : (v : Process V) (fills reads reads' : List ℕ) (cs cs' : List (ℕ × T)) (j : ℕ) (g : ReaderNotes T) (clock : ℕ)
       (times held : List ℕ) → j < n → j ≢ v.who → IsAtRest o n v fills reads cs → g.has ≡ 1 → g.asked ≡ 0 → g.opening.value ≡ o →
-      g.slot < 3 → length reads' ≡ length reads → get_or reads' j 0 ≡ g.slot → ((i : ℕ) → i ≢ j → get_or reads' i 0 ≡ get_or reads i 0) →
+      g.at_hand.value ≡ last_or o g.answers → g.slot < 3 → length reads' ≡ length reads → get_or reads' j 0 ≡ g.slot →
+      ((i : ℕ) → i ≢ j → get_or reads' i 0 ≡ get_or reads i 0) →
       Replaced cs cs' ((n - 1) + among v.who j) (slot_at (place n j v.who) g.slot, g.at_hand.value) → IsRotated held (held_slots cs') →
       IsAtRest o n (goes_on v (place n j v.who) (Reader g) clock times held) fills reads' cs'
-  rest_read v fills reads reads' cs cs' j g clock times held lj ne r took free opened low size number same new turned =
+  rest_read v fills reads reads' cs cs' j g clock times held lj ne r took free opened last low size number same new turned =
       let k : ℕ = place n j v.who in
       let l : place n j v.who < n * n = place_in n j v.who lj r.inside (λ e. ne (sym e)) in
       let parts : length v.parts ≡ n * n = r.parts in
@@ -146,6 +148,7 @@ module _ {T : Type 0} (o : T) (n : ℕ) where
               low = low;
               numbered = sym number;
               slot = new.here;
+              last = last;
             }))
             (λ (d : i ≢ j).
             let old = r.column i li nw in
@@ -159,6 +162,7 @@ module _ {T : Type 0} (o : T) (n : ℕ) where
               numbered = old.numbered ∙ sym (same i d);
               slot = new.others ((n - 1) + among v.who i)
                   (λ (e : (n - 1) + among v.who i ≡ (n - 1) + among v.who j). among_apart v.who i j nw ne d (omega arith)) ∙ old.slot;
+              last = old.last;
             })
             (cases_eq i j);
       }

@@ -321,6 +321,7 @@ module _ {T : Type 0} (o : T) (n who : ℕ) where
             low = omega arith;
             numbered = sym (gets j lj);
             slot = d.1 ∙ ap (λ z. some (slot_at z 2, o)) same;
+            last = refl;
           });
     };
     unused = (

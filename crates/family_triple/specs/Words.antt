@@ -2,7 +2,7 @@
 use Rattle.std.specs.Prelude.{◌≡◌, ◌≢◌, ℕ, ◌+◌, ◌*◌, ◌-◌, ◌<◌, nat_eq, cond, List, length, slice_index_or}
 use mathlib.Core.Option.{some}
 use lib.ListN.{get_elem?}
-use Rattle.cell_contract.specs.Running.{held_slots}
+use Rattle.cell_contract.specs.Running.{held_slots, last_or}
 use Rattle.cell_contract.specs.Sights.{writer_or, reader_or}
 use Rattle.cell_triple.specs.declared.notes.WriterNotes.{WriterNotes}
 use Rattle.cell_triple.specs.declared.notes.ReaderNotes.{ReaderNotes}
@@ -56,7 +56,7 @@ module _ {T : Type 0} (o : T) where
     pub record_there : T
     pub slot : get_elem? slots at ≡ some (slot_at k notes.slot, record_there)
 
-  -- and one that it reads: the slot has the record at hand
+  -- and one that it reads: the slot has the record at hand, the last answer
   pub record IsColumn (k : ℕ) (part : TripleSight T) (slots : List (ℕ × T)) (at number : ℕ) : Type 0 where
     pub notes : ReaderNotes T
     pub is : part ≡ Reader notes
@@ -66,6 +66,7 @@ module _ {T : Type 0} (o : T) where
     pub low : notes.slot < 3
     pub numbered : notes.slot ≡ number
     pub slot : get_elem? slots at ≡ some (slot_at k notes.slot, notes.at_hand.value)
+    pub last : notes.at_hand.value ≡ last_or o notes.answers
 
   -- a process of n between two calls: its seat has the slots of its row, in turn, and then those of its column, and
   -- keeps their numbers. Of cells that it doesn't write it tells nothing

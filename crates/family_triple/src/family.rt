@@ -7,6 +7,7 @@ ghost use Rattle.cell_contract.specs.Rows.{IsReadFrom};
 ghost use Rattle.family_table.specs.Left.{AreSoFarWith};
 ghost use Rattle.family_table.specs.Places.{place};
 ghost use Rattle.family_table.specs.declared.notes.View.TheVariants.{Has};
+ghost use Rattle.family_triple.specs.Access.{shown_by};
 ghost use Rattle.family_triple.specs.Triples.{first_view};
 ghost use Rattle.family_table.specs.Seated.{known_by};
 ghost use Rattle.family_triple.specs.Seated.{IsFirst};
@@ -18,7 +19,7 @@ ghost use Rattle.family_triple.specs.Seated.{IsSeat, SeatShowsAll};
 ghost use Rattle.family_table.specs.Seated.{sender_of, time_of};
 ghost use Rattle.family_triple.specs.Seated.{named_by, carried_by, IsReceipt, one_is_few, one_step};
 
-use crate::slots::{among, newest, take_slots, turn_by};
+use crate::slots::{among, newest, show_where, shows, take_slots, turn_by};
 use crate::table::{FamilySeat, FamilyTable, slot_place};
 use cell_contract::{Family, Kept, Planned, Sees, SharedFamily, SoFar};
 use cell_triple::TripleSight;
@@ -83,9 +84,17 @@ fn seats_of<T: Planned>(
 }
 
 impl<T: Planned> TripleFamily<T> {
-    /// A read of the register of process `from`, which is this cell.
+    /// A read of the register of process `from`, which is this cell. A record that is the last answer again is shown
+    /// only if `again` says so: else its slot isn't visited.
     #[inline(always)]
-    fn read_at<L: Sees<T>>(&self, seat: &mut TripleSeat<T>, cell: usize, from: usize, seen: &mut L)
+    fn read_at<L: Sees<T>>(
+        &self,
+        seat: &mut TripleSeat<T>,
+        cell: usize,
+        from: usize,
+        again: bool,
+        seen: &mut L,
+    )
         requires own { IsSeat self.now seat.old }
         requires other { (from < processes_of self.now) × (from ≢ number_of seat.old) }
         requires at { cell ≡ place seat.old.processes from seat.old.who }
@@ -93,7 +102,7 @@ impl<T: Planned> TripleFamily<T> {
             (T.plan (opening_of self.now) 1 (processes_of self.now) (limit_of self.now) (number_of seat.old)) 1 from
             (doings (times_of seat.old) (writes_of seat.old) (reads_of seat.old)) }
         ensures read { IsReadFrom (IsSeat self.now) number_of clock_of times_of writes_of reads_of 1
-            (opening_of self.now) T.fits T.rises L.sees from
+            (opening_of self.now) T.fits T.rises (shown_by again L.sees) from
             (seat.old, seen.old) (seat.new, seen.new) }
         ensures so_far { SeatShowsAll T.plan self.now seat.new }
     {
@@ -101,11 +110,20 @@ impl<T: Planned> TripleFamily<T> {
         let others = seat.processes - 1;
         let before = others + among(seat.who, from);
         turn_by(table, &mut seat.seat, before);
-        let slot = newest::<T, Brand>(table, &mut seat.seat, cell, seat.stored.reads[from]);
+        let (slot, marked) = newest::<T, Brand>(
+            table,
+            &mut seat.seat,
+            cell,
+            seat.stored.reads[from],
+        );
         seat.stored.reads[from] = slot;
-        table
-            .rows
-            .show(&mut seat.seat, slot_place(cell, slot), seen);
+        show_where(
+            table,
+            &mut seat.seat,
+            slot_place(cell, slot),
+            shows(again, marked),
+            seen,
+        );
         turn_by(table, &mut seat.seat, 2 * others - before);
     }
 }
@@ -190,7 +208,8 @@ impl<T: Planned> Family<T> for TripleFamily<T> {
 
     #[inline]
     fn read_from<L: Sees<T>>(&self, seat: &mut TripleSeat<T>, from: usize, seen: &mut L) {
-        self.read_at(seat, place(seat.processes, from, seat.who), from, seen);
+        let cell = place(seat.processes, from, seat.who);
+        self.read_at(seat, cell, from, true, seen);
     }
 
     #[inline(always)]
@@ -198,10 +217,10 @@ impl<T: Planned> Family<T> for TripleFamily<T> {
         let processes = seat.processes;
         let who = seat.who;
         for from in 0..who {
-            self.read_at(seat, place(processes, from, who), from, seen);
+            self.read_at(seat, place(processes, from, who), from, false, seen);
         }
         for from in who + 1..processes {
-            self.read_at(seat, place(processes, from, who), from, seen);
+            self.read_at(seat, place(processes, from, who), from, false, seen);
         }
     }
 

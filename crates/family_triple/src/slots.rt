@@ -1,6 +1,7 @@
 //! The slots that a seat has between two calls: those of the registers that its process writes, in turn, and then those
 //! of the registers that it reads. The slot of a call comes first for as long as the call lasts.
-ghost use Rattle.std.specs.Prelude.{◌≡◌, ◌≢◌, ℕ, ◌+◌, ◌*◌, ◌-◌, ◌<◌, ◌≤◌, List, [], ◌∷◌, ◌++◌, length};
+ghost use Rattle.std.specs.Prelude.{◌≡◌, ◌≢◌, ◌||◌, true, false, ℕ, ◌+◌, ◌*◌, ◌-◌, ◌<◌, ◌≤◌, List, [], ◌∷◌, ◌++◌};
+ghost use Rattle.std.specs.Prelude.{length};
 ghost use Rattle.cell_triple.specs.declared.notes.ReaderNotes.{ReaderNotes};
 ghost use Rattle.cell_triple.specs.Steps.{TripleSight};
 ghost use Rattle.family_table.specs.declared.notes.Process.{Process};
@@ -13,7 +14,7 @@ ghost use Rattle.family_triple.specs.Tables.{HasReader};
 ghost use Rattle.family_triple.specs.Triples.{first_process};
 
 use crate::table::{FamilySeat, FamilyTable};
-use cell_contract::Planned;
+use cell_contract::{Planned, Sees};
 use family_table::notes::Opening;
 use family_table::place;
 
@@ -71,15 +72,15 @@ pub(crate) fn take_slots<T: Planned>(
     }
 }
 
-/// Takes the slot in the middle in place of the seat's first, where the cell's word has the mark. Then
-/// the first slot has the answer.
+/// Takes the slot in the middle in place of the seat's first, where the cell's word has the mark, and tells whether it
+/// had. Then the first slot has the answer, the last one again where there was no mark.
 #[inline]
 pub(crate) fn newest<T: Planned, K: Opening<T>>(
     table: &FamilyTable<T>,
     seat: &mut FamilySeat<T>,
     cell: usize,
     slot: u64,
-) -> u64
+) -> (u64, bool)
     requires opening { (K.first ≡ table.now.rows.inner.shared.key.first ∷ [])
         × (K.processes ≡ table.now.rows.inner.shared.key.processes)
         × (K.limit ≡ table.now.rows.inner.shared.key.limit) }
@@ -93,13 +94,44 @@ pub(crate) fn newest<T: Planned, K: Opening<T>>(
     ensures own { seat.new.inner.table_id ≡ seat.old.inner.table_id }
     ensures looked { (v : Process (TripleSight T)) (g : ReaderNotes T) (cs : List (ℕ × T)) →
         HasReader seat.old.inner.me cell v g → seat.old.inner.me.1 ≡ (slot_at cell g.slot, g.at_hand.value) ∷ cs →
-        g.slot < 3 → slot ≡ g.slot → HasLooked T.fits T.rises cell v g cs seat.new.inner.me result }
+        g.slot < 3 → slot ≡ g.slot → HasLooked T.fits T.rises cell v g cs seat.new.inner.me
+        result.0 result.1 }
     ensures shown { ShowsAll T.plan table.now.rows.inner.shared.key seat.new.inner.me }
 {
     let found = table.look::<K>(seat, cell);
     if found < 4 {
-        return slot;
+        return (slot, false);
     }
     let middle = table.fetch::<K>(seat, cell, slot);
-    middle % 4
+    (middle % 4, true)
+}
+
+/// Whether an answer is shown: always where it is to be shown again, and else where the mark was found.
+#[inline(always)]
+pub(crate) fn shows(again: bool, marked: bool) -> bool
+    ensures { result ≡ (again || marked) }
+{
+    again || marked
+}
+
+/// Shows the record in the seat's first slot, where it is to be shown.
+#[inline(always)]
+pub(crate) fn show_where<T: Planned, L: Sees<T>>(
+    table: &FamilyTable<T>,
+    seat: &mut FamilySeat<T>,
+    slot: usize,
+    shows: bool,
+    seen: &mut L,
+)
+    requires own { seat.old.inner.table_id ≡ table.now.rows.inner.shared.table_id }
+    requires held { (x : T) × (cs : List (ℕ × T)) × (seat.old.inner.me.1 ≡ (slot, x) ∷ cs) }
+    ensures own { seat.new.inner.table_id ≡ seat.old.inner.table_id }
+    ensures same { seat.new.inner.me ≡ seat.old.inner.me }
+    ensures shown { shows ≡ true → (item : T) (cs : List (ℕ × T)) → seat.old.inner.me.1 ≡ (slot, item) ∷ cs →
+        L.sees seen.old item seen.new }
+    ensures unshown { shows ≡ false → seen.new ≡ seen.old }
+{
+    if shows {
+        table.rows.show(seat, slot, seen);
+    }
 }
