@@ -1,3 +1,4 @@
 pub mod LineLemmas
 pub mod NumberedLemmas
 pub mod WholeLemmas
+mod ForwardLemmas

@@ -4,6 +4,7 @@
 
 mod counts;
 mod exchanges_log;
+pub mod laws;
 mod line;
 mod log;
 mod number;

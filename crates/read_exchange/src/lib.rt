@@ -5,6 +5,7 @@
 mod compare;
 mod form;
 mod header;
+pub mod laws;
 mod line;
 mod operation;
 
