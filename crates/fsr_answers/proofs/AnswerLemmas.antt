@@ -1,7 +1,7 @@
 -- The answer to a race has status 0 or 1.
-use Rattle.std.proofs.Common.{rules, ◌≡◌, ◌≤◌, ℕ, List, Option, Some, None, Result, Ok, Err, ap, arith}
+use Rattle.std.proofs.Common.{rules, ◌≡◌, ◌≤◌, ℕ, List, Option, Some, None, Result, Ok, Err, inl, ap, arith}
 use Rattle.program_streams.specs.Exits.{status_of}
-use Rattle.program_runs.specs.Answers.{AnswersReading, GivesReply, HasLowStatus}
+use Rattle.program_runs.specs.Answers.{AnswersReading, GivesReply, HasAnswerStatus}
 use Rattle.program_runs.specs.declared.fault.Answer.{Answer}
 use Rattle.program_runs.specs.declared.fault.Fault.{Fault}
 use Rattle.history_core.specs.declared.band.Band.{Band}
@@ -31,6 +31,6 @@ module _ {F S T : Type 0} (family : FamilyWords F (Posted Band) S T) where
       rw same (race_is_low answered.0)
   answer_is_low (Err refusal) a answered = absurd (cc)
 
-  pub low_race : (bytes : List ℕ) (r : Result Answer Fault) → GivesReply (IsRaceAnswer family bytes) r → HasLowStatus r
-  low_race bytes (Ok a) answered = answer_is_low (race_of bytes) a answered
+  pub low_race : (bytes : List ℕ) (r : Result Answer Fault) → GivesReply (IsRaceAnswer family bytes) r → HasAnswerStatus r
+  low_race bytes (Ok a) answered = inl (answer_is_low (race_of bytes) a answered)
   low_race bytes (Err e) refused = search rules

@@ -1,5 +1,5 @@
 -- The answer to a history with an order of it, from what the calls of `check` gave, and that its status is 0 or 1.
-use Rattle.std.proofs.Common.{rules, arith, ◌≡◌, ◌≤◌, ℕ, List, Result, Ok, Err, ap, sym, subst}
+use Rattle.std.proofs.Common.{rules, arith, ◌≡◌, ◌≤◌, ℕ, List, Result, Ok, Err, inl, ap, sym, subst}
 use Rattle.program_streams.specs.Exits.{status_of}
 use Rattle.history_core.specs.Orders.{IsVerdict}
 use Rattle.history_core.specs.declared.history.Verdict.{Verdict}
@@ -7,7 +7,7 @@ use Rattle.history_core.specs.declared.history.Verdict.TheVariants.{Lawful, List
 use Rattle.read_history.specs.Check.{check_of}
 use Rattle.read_history.specs.declared.document.CheckDocument.{CheckDocument}
 use Rattle.read_document.specs.declared.refusal.DocError.{DocError}
-use Rattle.program_runs.specs.Answers.{AnswersReading, GivesReply, HasLowStatus}
+use Rattle.program_runs.specs.Answers.{AnswersReading, GivesReply, HasAnswerStatus}
 use Rattle.program_runs.specs.declared.fault.Answer.{Answer}
 use Rattle.program_runs.specs.declared.fault.Fault.{Fault}
 use Rattle.history_core.proofs.Bands.{HaveSameFields, fields_are_equality}
@@ -38,6 +38,6 @@ low_reading : (d : Result CheckDocument DocError) (a : Answer) → AnswersReadin
 low_reading (Ok document) a answered = low_verdict answered.0 a answered.2
 low_reading (Err refusal) a answered = absurd (cc)
 
-pub low_check : (bytes : List ℕ) (r : Result Answer Fault) → GivesReply (IsCheckAnswer bytes) r → HasLowStatus r
-low_check bytes (Ok a) answered = low_reading (check_of bytes) a answered
+pub low_check : (bytes : List ℕ) (r : Result Answer Fault) → GivesReply (IsCheckAnswer bytes) r → HasAnswerStatus r
+low_check bytes (Ok a) answered = inl (low_reading (check_of bytes) a answered)
 low_check bytes (Err e) refused = search rules

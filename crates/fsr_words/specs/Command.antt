@@ -1,12 +1,14 @@
 -- The command that the words name, as clap matches them (this project's own).
 use Rattle.std.specs.Prelude.{◌≡◌, ◌⊎◌, ℕ, Bool, List, codes, true, false, Option, Some, None}
-use Rattle.std.specs.Prelude.{option_and_then, if◌then◌else◌}
+use Rattle.std.specs.Prelude.{option_and_then, unwrap_or, if◌then◌else◌}
 use Rattle.std.specs.Str.{bytes_eq}
 use Rattle.clap.specs.Words.{App, Row, Rule, Shape, Text, first_of, new_app, new_rule, with_rule}
 use Rattle.clap.specs.Words.{with_subcommand, fault_of, subcommand_of}
 use Rattle.clap.specs.Walk.{is_empty}
 use Rattle.clap.specs.Simple.{on_top}
-use Rattle.clap.specs.declared.builder.action.ArgAction.TheVariants.{SetTrue}
+use Rattle.clap.specs.declared.builder.action.ArgAction.TheVariants.{Set, SetTrue}
+use Rattle.clap.specs.declared.builder.value_parser.ValueParser.TheVariants.{Unsigned}
+use Rattle.program_runs.specs.Shows.{budget_of, most_budget, usual_budget}
 use Rattle.program_runs.specs.declared.show.Show.{Show}
 use Rattle.clap.specs.Words.{kind_of}
 use Rattle.clap.specs.declared.error.Error.{Error}
@@ -24,11 +26,23 @@ over_a_document name = (with_rule (new_app name) (new_rule (codes "FILE"))).top
 abbrev pub flag : Text → Rule
 flag name = record (new_rule name) { long = Some name; action = Some SetTrue }
 
--- the subcommand that may be told what to print
+-- a word with a number from 1 to the greatest budget
+abbrev pub budget : Rule
+budget = record (new_rule (codes "budget")) {
+  long = Some (codes "budget");
+  value_names = 1;
+  action = Some Set;
+  parser = Some (Unsigned 1 most_budget);
+}
+
+abbrev pub with_flags : App → App
+with_flags app =
+    with_rule (with_rule (with_rule app (flag (codes "order"))) (flag (codes "small"))) (flag (codes "strict"))
+
+-- the subcommand that may be told what to print, and how to judge
 abbrev pub over_a_log : Shape
 over_a_log =
-    (with_rule (with_rule (with_rule (new_app (codes "order")) (new_rule (codes "FILE"))) (flag (codes "order")))
-    (flag (codes "small"))).top
+    (with_rule (with_flags (with_rule (new_app (codes "order")) (new_rule (codes "FILE")))) budget).top
 
 -- the command line of `fsr`: one of the subcommands is required
 abbrev pub fsr : App
@@ -46,8 +60,20 @@ is_true (Some value) = bytes_eq value (codes "true")
 abbrev pub is_told : Text → List Row → Bool
 is_told name rows = is_true (first_of name rows)
 
+-- the budget that a word names, or the usual one
+abbrev pub budget_named : Option Text → ℕ
+budget_named word = unwrap_or (option_and_then budget_of word) usual_budget
+
+abbrev pub budget_in : List Row → ℕ
+budget_in rows = budget_named (first_of (codes "budget") rows)
+
 abbrev pub show_in : List Row → Show
-show_in rows = record { order = is_told (codes "order") rows; small = is_told (codes "small") rows }
+show_in rows = record {
+  order = is_told (codes "order") rows;
+  small = is_told (codes "small") rows;
+  strict = is_told (codes "strict") rows;
+  budget = budget_in rows;
+}
 
 abbrev pub want_named : Text → List Row → Option Want
 want_named name rows = if bytes_eq name (codes "check") then Some Check

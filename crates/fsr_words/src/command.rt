@@ -1,12 +1,14 @@
-ghost use Rattle.std.specs.Prelude.{◌≡◌, ◌≢◌, None, Some, false, map, option_map, IfOk, IfErr};
+ghost use Rattle.std.specs.Prelude.{◌≡◌, ◌≢◌, None, Some, false, map, option_map, unwrap_or, IfOk, IfErr};
 ghost use Rattle.clap.specs.Words.{app_of, found_of, rows_of, rule_of, subcommand_rows_of, with_subcommand};
-ghost use Rattle.fsr_words.specs.Command.{fsr, command_of, file_in, file_of, flag, is_told, over_a_document};
-ghost use Rattle.fsr_words.specs.Command.{over_a_log, show_in, want_in};
-ghost use Rattle.fsr_words.specs.Command.{want_named, Refuses};
+ghost use Rattle.fsr_words.specs.Command.{fsr, budget, budget_in, command_of, file_in, file_of, flag, is_told};
+ghost use Rattle.fsr_words.specs.Command.{over_a_document, over_a_log, show_in, want_in, want_named};
+ghost use Rattle.fsr_words.specs.Command.{budget_named, Refuses};
+ghost use Rattle.program_runs.specs.Shows.{usual_budget};
 
+use clap::builder::ValueParser;
 use clap::error::ErrorKind;
 use clap::{Arg, ArgAction, ArgMatches, Command, Error};
-use program_runs::Show;
+use program_runs::{MOST_BUDGET, Show, budget_of};
 use std::alloc::{AllocError, Global};
 use std::convert::AsStr;
 
@@ -60,7 +62,7 @@ fn with_command<'a>(
     line.subcommand(command)
 }
 
-/// The command line with the command `order` more, which may be told what to print.
+/// The command line with the command `order` more, which may be told what to print and how to judge.
 fn with_order<'a>(alloc: Global, line: Command<'a>) -> Result<Command<'a>, AllocError>
     ensures { IfOk result (λ c. app_of c ≡ with_subcommand (app_of line.entry) over_a_log) }
 {
@@ -71,12 +73,32 @@ fn with_order<'a>(alloc: Global, line: Command<'a>) -> Result<Command<'a>, Alloc
     let small = flag(alloc, "small").help(
         "Of a log in lines a small one without an order, or nothing, in place of all else",
     );
+    let strict = flag(alloc, "strict").help(
+        "Of a log in lines status 8 in place of 0 if a lawful one shows nothing or little",
+    );
+    let budget = budget(alloc).help(
+        "Of a log whose records repeat, how many configurations may be held: 1 to 1000000000, else 10000",
+    );
     let command = Command::new(alloc, "order")
         .about("Finds a lawful order of a log, or tells why there is none")
         .arg(file)?
         .arg(order)?
-        .arg(small)?;
+        .arg(small)?
+        .arg(strict)?
+        .arg(budget)?;
     line.subcommand(command)
+}
+
+/// How many configurations may be held.
+fn budget<'a>(alloc: Global) -> Arg<'a>
+    ensures rule { rule_of result ≡ budget }
+    ensures local { result.global ≡ false }
+{
+    Arg::new(alloc, "budget")
+        .long("budget")
+        .value_name("N")
+        .action(ArgAction::Set)
+        .value_parser(ValueParser::Unsigned(1, MOST_BUDGET as u64))
 }
 
 /// A word that is there or not.
@@ -145,6 +167,33 @@ fn show_in(found: &ArgMatches<'_>) -> Show
     Show {
         order: is_told(found, "order"),
         small: is_told(found, "small"),
+        strict: is_told(found, "strict"),
+        budget: budget_in(found),
+    }
+}
+
+/// The budget that is told, or the usual one.
+fn budget_in(found: &ArgMatches<'_>) -> usize
+    ensures { result ≡ budget_in (rows_of (found_of found.now)) }
+{
+    budget_named(found.get_str("budget"))
+}
+
+fn budget_named(word: Option<&str>) -> usize
+    ensures { result ≡ budget_named (option_map (λ name. name.now) word.entry) }
+{
+    match word {
+        Some(word) => budget_or_usual(budget_of(word)),
+        None => budget_or_usual(None),
+    }
+}
+
+fn budget_or_usual(budget: Option<usize>) -> usize
+    ensures { result ≡ unwrap_or budget usual_budget }
+{
+    match budget {
+        Some(budget) => budget,
+        None => Show::plain().budget,
     }
 }
 

@@ -48,12 +48,13 @@ pub fn picture(alloc: Global, document: &[u8], buffer: &mut [u8], size: &mut u64
     hand_out(alloc, &PICTURE, reply, buffer, size)
 }
 
-/// What `order` is asked to show by a number: 1 is `--order`, 2 is `--small`, and any other number neither.
+/// What `order` is asked for by a number: 1 is `--order`, 2 is `--small`, and any other number neither.
 pub fn show_numbered(number: u32) -> Show
     ensures { result ≡ show_numbered number }
 {
     Show {
         order: number == 1,
         small: number == 2,
+        ..Show::plain()
     }
 }

@@ -1,7 +1,7 @@
 -- The answer with a picture has status 0 or 1.
-use Rattle.std.proofs.Common.{rules, ◌≡◌, ◌≤◌, List, ℕ, Result, Ok, Err, ap, arith}
+use Rattle.std.proofs.Common.{rules, ◌≡◌, ◌≤◌, List, ℕ, Result, Ok, Err, inl, ap, arith}
 use Rattle.program_streams.specs.Exits.{status_of}
-use Rattle.program_runs.specs.Answers.{AnswersReading, GivesReply, HasLowStatus}
+use Rattle.program_runs.specs.Answers.{AnswersReading, GivesReply, HasAnswerStatus}
 use Rattle.program_runs.specs.declared.fault.Answer.{Answer}
 use Rattle.program_runs.specs.declared.fault.Fault.{Fault}
 use Rattle.read_document.specs.declared.refusal.DocError.{DocError}
@@ -30,6 +30,6 @@ low_reading (Ok (shown.Schedule (Matrix schedule titled))) a answered = low_draw
 low_reading (Ok (shown.Schedule (Board schedule titled))) a answered = low_drawn answered.3 a answered.5
 low_reading (Err refusal) a answered = absurd (cc)
 
-pub low_answer : (bytes : List ℕ) (r : Result Answer Fault) → GivesReply (IsPictureAnswer bytes) r → HasLowStatus r
-low_answer bytes (Ok a) answered = low_reading (document_of bytes) a answered
+pub low_answer : (bytes : List ℕ) (r : Result Answer Fault) → GivesReply (IsPictureAnswer bytes) r → HasAnswerStatus r
+low_answer bytes (Ok a) answered = inl (low_reading (document_of bytes) a answered)
 low_answer bytes (Err e) refused = search rules

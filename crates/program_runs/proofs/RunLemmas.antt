@@ -7,7 +7,7 @@ use Rattle.std.specs.Io.{StartsWith}
 use Rattle.std.specs.Io.KnownBytes.{Appends}
 use Rattle.program_streams.proofs.SpaceLemmas.{within}
 use Rattle.program_streams.specs.Transfer.{IsWhole as IsInputWhole, most_taken, TakesBytes as TakesInput}
-use Rattle.program_runs.specs.Answers.{GivesReply, HasLowStatus}
+use Rattle.program_runs.specs.Answers.{GivesReply, HasAnswerStatus}
 use Rattle.program_runs.specs.Run.{CountsTaking, Fails, GivesAnswer, IsInBound, IsToldBy, IsWholeInput, never, Runs, TakesInBound}
 use Rattle.program_runs.specs.Run.{TakesDocument, TellsFault, fault_status, nothing_asked}
 use Rattle.program_runs.specs.declared.fault.Answer.{Answer}
@@ -62,7 +62,7 @@ module _ (IsOutcome : List ℕ → Answer → Type 0) (is_unbounded : List ℕ �
     at_most = takes.1;
     sends = Appends-nil out;
     front = inl refl;
-    silent = λ two other. refl;
+    silent = λ two other more. refl;
     told = λ not_four not_five. absurd (not_four refl);
     whole = λ not_two not_four not_five. absurd (not_four refl);
   }
@@ -84,7 +84,7 @@ module _ (IsOutcome : List ℕ → Answer → Type 0) (is_unbounded : List ℕ �
     at_most = nothing_taken;
     sends = Appends-nil out;
     front = inl refl;
-    silent = λ two other. refl;
+    silent = λ two other more. refl;
     told = λ not_four not_five. outcome;
     whole = λ not_two not_four not_five. absurd (not_two refl);
   }
@@ -99,7 +99,7 @@ module _ (IsOutcome : List ℕ → Answer → Type 0) (is_unbounded : List ℕ �
     at_most = takes.1;
     sends = Appends-nil out;
     front = inl refl;
-    silent = λ two other. refl;
+    silent = λ two other more. refl;
     told = λ not_four not_five. absurd (not_five refl);
     whole = λ not_two not_four not_five. absurd (not_five refl);
   }
@@ -152,7 +152,7 @@ module _ (IsReply : List ℕ → Result Answer Fault → Type 0) (is_unbounded :
     at_most = takes.1;
     sends = Appends-nil out;
     front = inl refl;
-    silent = λ two other. refl;
+    silent = λ two other more. refl;
     told = λ not_four not_five. (Err f, answered, refl);
     whole = λ not_two not_four not_five. whole;
   }
@@ -168,16 +168,17 @@ module _ (IsReply : List ℕ → Result Answer Fault → Type 0) (is_unbounded :
   ends_refused out (fault.Undecided line) refused = ends_with_fault out (fault.Undecided line) (refused (search rules))
 
   -- the text went out whole
-  ends_told : (out_old out_new : Option (List ℕ)) (a : Answer) → IsReply taken (Ok a) → a.status ≤ 1 → Appends out_old out_new a.text
+  ends_told : (out_old out_new : Option (List ℕ)) (a : Answer) → IsReply taken (Ok a) → (a.status ≤ 1) ⊎ (a.status ≡ 8)
+      → Appends out_old out_new a.text
       → Runs (IsToldBy IsReply) is_unbounded in_old in_new out_old out_new a.status
-  ends_told out_old out_new a answered low sends = record {
+  ends_told out_old out_new a answered shown sends = record {
     taken = taken;
     sent = a.text;
     takes = takes.0;
     at_most = takes.1;
     sends = sends;
     front = inr ((a, (Ok a, answered, refl), take_all (length a.text) a.text (omega arith)), whole);
-    silent = λ two other. absurd (omega (arith, two, low));
+    silent = λ two other more. absurd (⊎_elim (λ (least : a.status ≤ 1). omega (arith, two, least)) more shown);
     told = λ not_four not_five. (Ok a, answered, refl);
     whole = λ not_two not_four not_five. whole;
   }
@@ -192,13 +193,13 @@ module _ (IsReply : List ℕ → Result Answer Fault → Type 0) (is_unbounded :
     at_most = takes.1;
     sends = sends;
     front = inr ((a, (Ok a, answered, refl), front), whole);
-    silent = λ two other. absurd (other refl);
+    silent = λ two other more. absurd (other refl);
     told = λ not_four not_five. absurd (not_five refl);
     whole = λ not_two not_four not_five. absurd (not_five refl);
   }
 
   ends_given : (out_old out_new : Option (List ℕ)) (failed_old failed_new status : ℕ) (reply : Result Answer Fault)
-      → GivesReply (IsReply taken) reply → HasLowStatus reply → GivesAnswer reply out_old out_new failed_old failed_new status
+      → GivesReply (IsReply taken) reply → HasAnswerStatus reply → GivesAnswer reply out_old out_new failed_old failed_new status
       → Runs (IsToldBy IsReply) is_unbounded in_old in_new out_old out_new status
   ends_given out_old out_new failed_old failed_new status (Ok a) answered low (inl told) =
       subst (Runs (IsToldBy IsReply) is_unbounded in_old in_new out_old out_new)
@@ -218,7 +219,7 @@ pub ends_answered : (IsReply : List ℕ → Result Answer Fault → Type 0) (is_
     (in_old in_new out_old out_new : Option (List ℕ)) (taken given : List ℕ)
     (failed_old failed_new status : ℕ) (reply : Result Answer Fault)
     → TakesInBound is_unbounded in_old in_new taken × IsWholeInput is_unbounded taken in_new →
-    given ≡ taken → GivesReply (IsReply given) reply → HasLowStatus reply
+    given ≡ taken → GivesReply (IsReply given) reply → HasAnswerStatus reply
     → GivesAnswer reply out_old out_new failed_old failed_new status →
     Runs (IsToldBy IsReply) is_unbounded in_old in_new out_old out_new status
 ends_answered IsReply is_unbounded in_old in_new out_old out_new taken given failed_old
@@ -236,10 +237,11 @@ no_stream fault.NoThread = λ five. absurd (omega (arith, five))
 no_stream (fault.Undecided line) = λ five. absurd (omega (arith, five))
 
 pub fails_answered : (in_old in_new out_old out_new status : ℕ) (old new : Option (List ℕ)) (reply : Result Answer Fault) → in_new ≡ in_old
-    → HasLowStatus reply → GivesAnswer reply old new out_old out_new status → Fails in_old in_new out_old out_new status
-fails_answered in_old in_new out_old out_new status old new (Ok a) same low (inl told) = record {
+    → HasAnswerStatus reply → GivesAnswer reply old new out_old out_new status → Fails in_old in_new out_old out_new status
+fails_answered in_old in_new out_old out_new status old new (Ok a) same shown (inl told) = record {
   five = (
-    λ (five : status ≡ 5). absurd (omega (arith, five, told.2, low)),
+    λ (five : status ≡ 5). absurd (⊎_elim (λ (least : a.status ≤ 1). omega (arith, five, told.2, least))
+        (λ (little : a.status ≡ 8). omega (arith, five, told.2, little)) shown),
     ⊎_elim (λ (rose : in_old < in_new). absurd (omega (arith, rose, same)))
         (λ (rose : out_old < out_new). absurd (omega (arith, rose, told.1))),
   );

@@ -1,5 +1,5 @@
 -- The answer to a document that may be refused, and what a call gives of it (this project's own).
-use Rattle.std.specs.Prelude.{◌≡◌, ◌≢◌, ◌≤◌, Result, Ok, Err}
+use Rattle.std.specs.Prelude.{◌≡◌, ◌≢◌, ◌≤◌, ◌⊎◌, Result, Ok, Err}
 use Rattle.read_document.specs.declared.refusal.DocError.{DocError}
 use Rattle.program_runs.specs.declared.fault.Answer.{Answer}
 use Rattle.program_runs.specs.declared.fault.Fault.{Fault}
@@ -16,7 +16,7 @@ abbrev pub GivesReply : (Result Answer Fault → Type 0) → Result Answer Fault
 GivesReply IsReply (Ok answer) = IsReply (Ok answer)
 GivesReply IsReply (Err e) = e ≢ fault.NoMemory → IsReply (Err e)
 
--- an answer has status 0 or 1
-abbrev pub HasLowStatus : Result Answer Fault → Type 0
-HasLowStatus (Ok answer) = answer.status ≤ 1
-HasLowStatus (Err e) = Unit {0}
+-- an answer has status 0 or 1, or 8 of one that little shows
+abbrev pub HasAnswerStatus : Result Answer Fault → Type 0
+HasAnswerStatus (Ok answer) = (answer.status ≤ 1) ⊎ (answer.status ≡ 8)
+HasAnswerStatus (Err e) = Unit {0}

@@ -76,8 +76,8 @@ pub record Runs (IsOutcome : List ℕ → Answer → Type 0) (is_unbounded : Lis
   pub sends : Appends out_old out_new sent
   -- what went out is a front of the text for the whole input, also after a failed write
   pub front : (sent ≡ []) ⊎ (IsFront IsOutcome taken sent × IsWholeInput is_unbounded taken in_new)
-  -- with a status from 2 nothing goes out, but for a front before a write failed
-  pub silent : 2 ≤ status → status ≢ 5 → sent ≡ []
+  -- with a status from 2 nothing goes out, but for a front before a write failed, and for an answer that little shows
+  pub silent : 2 ≤ status → status ≢ 5 → status ≢ 8 → sent ≡ []
   -- but for want of memory and failed streams, the text goes out whole, with its status
   pub told : status ≢ 4 → status ≢ 5 → IsOutcome taken (record { text = sent; status = status })
   pub whole : status ≢ 2 → status ≢ 4 → status ≢ 5 → IsWholeInput is_unbounded taken in_new

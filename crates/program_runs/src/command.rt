@@ -1,5 +1,5 @@
 ghost use Rattle.std.specs.Prelude.{◌≤◌, ◌+◌, ℕ, Bool, List, Result};
-ghost use Rattle.program_runs.specs.Answers.{GivesReply, HasLowStatus};
+ghost use Rattle.program_runs.specs.Answers.{GivesReply, HasAnswerStatus};
 ghost use Rattle.program_runs.specs.Run.{CountsTaking, Fails, IsToldBy, Runs, TakesDocument, TellsUnlessTaken};
 ghost use Rattle.program_runs.specs.declared.fault.Answer.{Answer};
 ghost use Rattle.program_runs.specs.declared.fault.Fault.{Fault};
@@ -31,10 +31,10 @@ pub trait Command {
         ensures counts { CountsTaking (I.failed input.old) (I.failed input.new) result }
         ensures faults { TellsUnlessTaken (E.failed faults.old) (E.failed faults.new) result };
 
-    /// The reply to the bytes of a document, whose status is 0 or 1 where there is an answer.
+    /// The reply to the bytes of a document, whose status is 0, 1 or 8 where there is an answer.
     fn reply(&self, alloc: Global, bytes: &[u8]) -> Result<Answer, Fault>
         ensures gives { GivesReply (is_reply self.now bytes.now) result }
-        ensures low { HasLowStatus result };
+        ensures status { HasAnswerStatus result };
 }
 
 /// Runs a command over the streams of its program, and gives the status that the run ends with. The text goes to `out`,

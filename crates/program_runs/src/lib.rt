@@ -11,5 +11,5 @@ mod words;
 pub use command::{Command, run_command};
 pub use fault::{Answer, Fault, HistoryFault, LinesFault};
 pub use run::{FSR, Program, give_answer, take_document, take_rest, tell_fault};
-pub use show::Show;
+pub use show::{MOST_BUDGET, Show, budget_of};
 pub use words::words_of;

@@ -4,6 +4,7 @@ use Rattle.std.proofs.lemmas.Option.{same_Some}
 use Rattle.program_streams.specs.Exits.{status_of}
 use Rattle.program_streams.specs.declared.exit.Exit.{Exit}
 use Rattle.program_streams.specs.declared.exit.Exit.TheVariants.{Sound, Unsound, NoCommand, Refused, NoMemory, Stream, NoThread, Undecided}
+use Rattle.program_streams.specs.declared.exit.Exit.TheVariants.{Little}
 
 -- the end that has this status
 exit_of : ℕ → Option Exit
@@ -15,7 +16,8 @@ exit_of s = if nat_eq s 0 then Some Sound
     else (if nat_eq s 5 then Some Stream
     else (if nat_eq s 6 then Some NoThread
     else (if nat_eq s 7 then Some Undecided
-    else None)))))))
+    else (if nat_eq s 8 then Some Little
+    else None))))))))
 
 has_its_status : (e : Exit) → exit_of (status_of e) ≡ Some e
 unfolding exit_of
@@ -27,6 +29,7 @@ has_its_status NoMemory = refl
 has_its_status Stream = refl
 has_its_status NoThread = refl
 has_its_status Undecided = refl
+has_its_status Little = refl
 
 pub alone : (e other : Exit) → status_of other ≡ status_of e → other ≡ e
 alone e other same = same_Some other e (sym (has_its_status other) ∙ (ap exit_of same ∙ has_its_status e))

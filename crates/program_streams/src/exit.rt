@@ -19,6 +19,8 @@ pub enum Exit {
     NoThread,
     /// There is no verdict: more configurations are held than the budget.
     Undecided,
+    /// What was asked about is so, but little shows it.
+    Little,
 }
 
 impl Exit {
@@ -36,6 +38,7 @@ impl Exit {
             Exit::Stream => 5,
             Exit::NoThread => 6,
             Exit::Undecided => 7,
+            Exit::Little => 8,
         }
     }
 }

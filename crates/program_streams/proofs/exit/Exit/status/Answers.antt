@@ -1,6 +1,7 @@
 -- No other end has the status.
 use Rattle.program_streams.proofs.ExitLemmas.{alone}
 use Rattle.program_streams.specs.declared.exit.Exit.TheVariants.{Sound, Unsound, NoCommand, Refused, NoMemory, Stream, NoThread, Undecided}
+use Rattle.program_streams.specs.declared.exit.Exit.TheVariants.{Little}
 use Rattle.program_streams.proofs.exit.Exit.status.Goals as goal
 
 pub returns-in-Sound-clause-alone : goal.returns-in-Sound-clause-alone
@@ -26,3 +27,6 @@ returns-in-NoThread-clause-alone c = rw c.in-NoThread.is (alone NoThread)
 
 pub returns-in-Undecided-clause-alone : goal.returns-in-Undecided-clause-alone
 returns-in-Undecided-clause-alone c = rw c.in-Undecided.is (alone Undecided)
+
+pub returns-in-Little-clause-alone : goal.returns-in-Little-clause-alone
+returns-in-Little-clause-alone c = rw c.in-Little.is (alone Little)
