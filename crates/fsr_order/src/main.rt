@@ -1,5 +1,5 @@
 //! `fsr_order`: `fsr order` alone, which is built without what the other commands need. It
-//! takes `--order` or `--small`.
+//! takes one of the words of `fsr order`.
 #![tactic(auto)]
 
 use fsr_order_answers::{run, show_of};
@@ -16,7 +16,7 @@ fn main(rt: HostRuntime) -> ExitCode {
     let Some(show) = show_of(words.as_slice()) else {
         tell(
             &mut faults,
-            "fsr_order: takes --order or --small, and the document on standard input\n",
+            "fsr_order: takes --order, --small, --strict or --budget N, and the document on standard input\n",
         );
         return ExitCode::from(Exit::NoCommand.status());
     };

@@ -2,6 +2,7 @@ mod CountLemmas
 pub mod FrontLemmas
 mod InputLemmas
 mod LimitLemmas
+mod LittleLemmas
 pub mod StatusLemmas
 pub mod SmallStatusLemmas
 pub mod LogLemmas

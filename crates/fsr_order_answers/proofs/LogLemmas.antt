@@ -1,6 +1,6 @@
 -- The answer to a log has status 0 or 1.
-use Rattle.std.proofs.Common.{rules, arith, ◌≡◌, ◌≤◌, ℕ, List, Result, Ok, Err, ap, sym, subst}
-use Rattle.program_runs.specs.Answers.{GivesReply, HasLowStatus}
+use Rattle.std.proofs.Common.{rules, arith, ◌≡◌, ◌≤◌, ℕ, List, Result, Ok, Err, inl, ap, sym, subst}
+use Rattle.program_runs.specs.Answers.{GivesReply, HasAnswerStatus}
 use Rattle.program_runs.specs.declared.fault.Answer.{Answer}
 use Rattle.program_runs.specs.declared.fault.Fault.{Fault}
 use Rattle.history_core.specs.declared.band.Band.{Band}
@@ -22,6 +22,6 @@ low_read : (d : Result (History Band) DocError) (a : Answer) → AnswersRead d (
 low_read (Ok log) a answered = low_search answered.0 a answered.2
 low_read (Err refusal) a answered = absurd (cc)
 
-pub low_log : (bytes : List ℕ) (r : Result Answer Fault) → GivesReply (IsLogAnswer bytes) r → HasLowStatus r
-low_log bytes (Ok a) answered = low_read (log_of bytes) a answered
+pub low_log : (bytes : List ℕ) (r : Result Answer Fault) → GivesReply (IsLogAnswer bytes) r → HasAnswerStatus r
+low_log bytes (Ok a) answered = inl (low_read (log_of bytes) a answered)
 low_log bytes (Err e) refused = search rules

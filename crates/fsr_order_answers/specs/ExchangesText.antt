@@ -1,9 +1,11 @@
 -- All that is printed of a log whose records repeat (this project's own).
-use Rattle.std.specs.Prelude.{ℕ, ◌++◌, List, codes, length, slice_get, unwrap_or}
+use Rattle.std.specs.Prelude.{ℕ, ◌++◌, List, codes, length, Option, None, Some, slice_get, unwrap_or}
 use Rattle.std.specs.Option.{option_and_then}
 use Rattle.exchanges_log.specs.declared.exchanges_log.ExchangesLog.{ExchangesLog}
 use Rattle.object_core.specs.declared.operation.Operation.{Operation}
+use Rattle.object_window.specs.declared.find.Window.{Window}
 use Rattle.print_reasons.specs.Lost.{lost_text}
+use Rattle.print_reasons.specs.Together.{together_text}
 use Rattle.fsr_order_answers.specs.Text.{count_text, end_text}
 
 abbrev pub ops_text : ExchangesLog → List ℕ
@@ -24,5 +26,10 @@ lawful_text log = codes "lawful\n" ++ counts_text log
 abbrev pub end_of : {W : Type 0} → List (Operation W) → ℕ → ℕ
 end_of {W} ops place = unwrap_or (option_and_then (λ (o : Operation W). o.ends) (slice_get ops place)) 0
 
-abbrev pub unlawful_text : List ℕ → ExchangesLog → ℕ → List ℕ
-unlawful_text bytes log place = lost_text bytes place (end_of log.ops.items place) ++ counts_text log
+-- what shows that a log is lost: the operations of a window, or else the line at whose end it is
+abbrev pub shown_text : List ℕ → ExchangesLog → ℕ → Option Window → List ℕ
+shown_text bytes log place None = lost_text bytes place (end_of log.ops.items place)
+shown_text bytes log place (Some window) = together_text bytes window.first window.last window.places.items
+
+abbrev pub unlawful_text : List ℕ → ExchangesLog → ℕ → Option Window → List ℕ
+unlawful_text bytes log place window = shown_text bytes log place window ++ counts_text log

@@ -12,14 +12,14 @@ use Rattle.fsr_order_answers.specs.Logs.{IsLogAnswer}
 
 -- the answer to a log in lines: a small log if that is asked for, else the verdict, with the
 -- writes in order if those are
-abbrev pub IsAnswerIfSmall : Bool → Bool → List ℕ → Result Answer Fault → Type 0
-IsAnswerIfSmall true order bytes reply = IsSmallAnswer bytes reply
-IsAnswerIfSmall false order bytes reply = IsLinesAnswer order bytes reply
+abbrev pub IsAnswerIfSmall : Show → Bool → List ℕ → Result Answer Fault → Type 0
+IsAnswerIfSmall show true bytes reply = IsSmallAnswer show.strict bytes reply
+IsAnswerIfSmall show false bytes reply = IsLinesAnswer show bytes reply
 
--- the answer to a log in lines by whether its records repeat: then there is no choice
+-- the answer to a log in lines by whether its records repeat: then there is a budget, and no choice of what is printed
 abbrev pub IsAnswerInLines : Show → Bool → List ℕ → Result Answer Fault → Type 0
-IsAnswerInLines show true bytes reply = IsExchangesAnswer bytes reply
-IsAnswerInLines show false bytes reply = IsAnswerIfSmall show.small show.order bytes reply
+IsAnswerInLines show true bytes reply = IsExchangesAnswer show.budget bytes reply
+IsAnswerInLines show false bytes reply = IsAnswerIfSmall show show.small bytes reply
 
 -- the answer by the kind: whether the document is a log in lines
 abbrev pub IsAnswerBy : Show → Bool → List ℕ → Result Answer Fault → Type 0

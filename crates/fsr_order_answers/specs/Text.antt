@@ -1,5 +1,5 @@
 -- All that is printed of a log in lines (this project's own).
-use Rattle.std.specs.Prelude.{ℕ, ◌*◌, ◌++◌, List, [], codes, Bool, true, false, nat_eq, nat_lt, if◌then◌else◌}
+use Rattle.std.specs.Prelude.{ℕ, ◌*◌, ◌++◌, ◌||◌, List, [], codes, Bool, true, false, nat_eq, nat_lt, if◌then◌else◌}
 use Rattle.std.specs.Fmt.{decimal}
 use Rattle.history_core.specs.declared.thinned.LogAnswer.{LogAnswer}
 use Rattle.history_core.specs.declared.thinned.LogAnswer.TheVariants.{Lawful, Unlawful}
@@ -28,6 +28,10 @@ little_text ops records read =
     if nat_eq ops 0 then codes "Nothing was shown: there is no operation.\n"
     else (if nat_lt (read * 100) records
     then codes "Little was shown: less than 1 % of the records were read.\n" else [])
+
+-- whether this says something of a lawful log
+abbrev pub shows_little : LinesLog → Bool
+shows_little log = nat_eq log.ops 0 || nat_lt (log.read * 100) log.records
 
 abbrev pub shown_text : LinesLog → LogAnswer → List ℕ
 shown_text log (Lawful writes) = little_text log.ops log.records log.read

@@ -1,31 +1,35 @@
 //! The answer to a log whose records repeat.
-ghost use Rattle.std.specs.Prelude.{◌≡◌, IfOk};
+ghost use Rattle.std.specs.Prelude.{◌≡◌, IfOk, IfSome, Option};
 ghost use Rattle.fsr_order_answers.specs.Exchanges.{IsExchangesAnswer, IsSwept, printed};
+ghost use Rattle.object_sweep.specs.Rests.{RunForwards};
 ghost use Rattle.object_sweep.specs.declared.log_sweep.Verdict.{Verdict};
+ghost use Rattle.object_window.specs.Together.{IsLostTogether};
+ghost use Rattle.object_window.specs.declared.find.Window.{Window};
 ghost use Rattle.program_runs.specs.Answers.{GivesReply};
 
 use crate::exchanges_text::{lawful_text, unlawful_text};
+use exchanges_log::laws::read_log_runs_forwards;
 use exchanges_log::{ExchangesLog, read_exchanges};
 use history_core::Items;
 use object_registers::Exchanging;
-use object_sweep::{Verdict, sweep};
+use object_sweep::{SweepError, Verdict, sweep};
+use object_window::{Window, find_window};
 use program_runs::{Answer, Fault};
 use read_line::line_of;
 use std::alloc::{AllocError, Global};
 
-/// How many configurations the sweep may hold.
-const BUDGET: usize = 10_000;
-
-/// The answer of the command `order` to the bytes of a log whose records repeat: whether it has a lawful order, or the
-/// end at which it is lost; or that there are too many configurations.
-pub fn order_exchanges(alloc: Global, bytes: &[u8]) -> Result<Answer, Fault>
-    ensures { GivesReply (IsExchangesAnswer bytes.now) result }
+/// The answer of the command `order` to the bytes of a log whose records repeat: whether it has a lawful order, or few
+/// operations that have none, or else the end at which it is lost; or that there are more configurations than the
+/// budget.
+pub fn order_exchanges(alloc: Global, budget: usize, bytes: &[u8]) -> Result<Answer, Fault>
+    ensures { GivesReply (IsExchangesAnswer budget bytes.now) result }
 {
     let log = match read_exchanges(alloc, bytes) {
         Ok(log) => log,
         Err(fault) => return Err(fault),
     };
-    match answer_log(alloc, bytes, &log) {
+    read_log_runs_forwards();
+    match answer_log(alloc, budget, bytes, &log) {
         Ok(reply) => reply,
         Err(_) => Err(Fault::NoMemory),
     }
@@ -34,24 +38,42 @@ pub fn order_exchanges(alloc: Global, bytes: &[u8]) -> Result<Answer, Fault>
 /// What the sweep tells, printed.
 fn answer_log(
     alloc: Global,
+    budget: usize,
     bytes: &[u8],
     log: &ExchangesLog,
 ) -> Result<Result<Answer, Fault>, AllocError>
-    ensures { IfOk result (λ reply. (verdict : Verdict) × IsSwept log.now verdict
-        × (reply ≡ printed bytes.now log.now verdict)) }
+    requires { RunForwards log.now.ops.items }
+    ensures { IfOk result (λ reply. (verdict : Verdict) × (window : Option Window) × IsSwept log.now budget verdict
+        × IfSome window (IsLostTogether log.now.ops.items) × (reply ≡ printed bytes.now log.now verdict window)) }
 {
-    let verdict = sweep_log(alloc, log)?;
-    print(alloc, bytes, log, verdict)
+    let verdict = sweep_log(alloc, budget, log)?;
+    let window = window_of(alloc, log, verdict)?;
+    print(alloc, bytes, log, verdict, &window)
 }
 
-/// The sweep from the opening on, whose number is 0. A log that was read runs forwards, so nothing but memory is in the
-/// way.
-fn sweep_log(alloc: Global, log: &ExchangesLog) -> Result<Verdict, AllocError>
-    ensures { IfOk result (IsSwept log.now) }
+/// The sweep from the opening on, whose number is 0.
+fn sweep_log(alloc: Global, budget: usize, log: &ExchangesLog) -> Result<Verdict, AllocError>
+    requires { RunForwards log.now.ops.items }
+    ensures { IfOk result (IsSwept log.now budget) }
 {
-    match sweep(alloc, Exchanging { held: 0 }, log.ops.as_slice(), BUDGET) {
+    match sweep(alloc, Exchanging { held: 0 }, log.ops.as_slice(), budget) {
         Ok(verdict) => Ok(verdict),
-        Err(_) => Err(AllocError),
+        Err(SweepError::NoMemory) => Err(AllocError),
+        Err(SweepError::Backwards { place: _ }) => unreachable!(),
+    }
+}
+
+/// A window in which the log is lost, if it is and one is found.
+fn window_of(
+    alloc: Global,
+    log: &ExchangesLog,
+    verdict: Verdict,
+) -> Result<Option<Window>, AllocError>
+    ensures { IfOk result (λ found. IfSome found (IsLostTogether log.now.ops.items)) }
+{
+    match verdict {
+        Verdict::Unlawful { place } => find_window(alloc, log.ops.as_slice(), place),
+        _ => Ok(None),
     }
 }
 
@@ -60,8 +82,9 @@ fn print(
     bytes: &[u8],
     log: &ExchangesLog,
     verdict: Verdict,
+    window: &Option<Window>,
 ) -> Result<Result<Answer, Fault>, AllocError>
-    ensures { IfOk result (λ reply. reply ≡ printed bytes.now log.now verdict) }
+    ensures { IfOk result (λ reply. reply ≡ printed bytes.now log.now verdict window.now) }
 {
     match verdict {
         Verdict::Lawful => {
@@ -69,7 +92,7 @@ fn print(
             Ok(Ok(Answer { text, status: 0 }))
         }
         Verdict::Unlawful { place } => {
-            let text = Items::new(unlawful_text(alloc, bytes, log, place)?);
+            let text = Items::new(unlawful_text(alloc, bytes, log, place, window)?);
             Ok(Ok(Answer { text, status: 1 }))
         }
         Verdict::TooMany { place } => {

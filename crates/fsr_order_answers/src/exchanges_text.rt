@@ -1,11 +1,14 @@
 //! All that is printed of a log whose records repeat.
 ghost use Rattle.std.specs.Prelude.{◌≡◌, ◌++◌, IfOk, OnOk};
-ghost use Rattle.fsr_order_answers.specs.ExchangesText.{counts_text, end_of, lawful_text, ops_text, unlawful_text};
+ghost use Rattle.fsr_order_answers.specs.ExchangesText.{counts_text, end_of, lawful_text, ops_text, shown_text};
+ghost use Rattle.fsr_order_answers.specs.ExchangesText.{unlawful_text};
+ghost use Rattle.print_reasons.specs.Together.{together_text};
 
 use crate::text::{push_count, push_end};
 use exchanges_log::ExchangesLog;
 use object_core::Operation;
-use print_reasons::lost_text;
+use object_window::Window;
+use print_reasons::{lost_text, together_text};
 use std::alloc::{AllocError, Global};
 
 pub(crate) fn lawful_text(alloc: Global, log: &ExchangesLog) -> Result<Vec<u8>, AllocError>
@@ -16,19 +19,43 @@ pub(crate) fn lawful_text(alloc: Global, log: &ExchangesLog) -> Result<Vec<u8>, 
     Ok(text)
 }
 
-/// The line at whose end the log is lost, and the counts.
+/// What shows that the log is lost, and the counts.
 pub(crate) fn unlawful_text(
     alloc: Global,
     bytes: &[u8],
     log: &ExchangesLog,
     place: usize,
+    window: &Option<Window>,
 ) -> Result<Vec<u8>, AllocError>
-    ensures { IfOk result (λ text. text.items ≡ unlawful_text bytes.now log.now place) }
+    ensures { IfOk result (λ text. text.items ≡ unlawful_text bytes.now log.now place window.now) }
 {
-    let end = end_of(log.ops.as_slice(), place);
-    let mut text = lost_text(alloc, bytes, place, end)?;
+    let mut text = shown_text(alloc, bytes, log, place, window)?;
     push_counts(&mut text, log)?;
     Ok(text)
+}
+
+/// The operations of a window in which the log is lost, or else the line at whose end it is.
+fn shown_text(
+    alloc: Global,
+    bytes: &[u8],
+    log: &ExchangesLog,
+    place: usize,
+    window: &Option<Window>,
+) -> Result<Vec<u8>, AllocError>
+    ensures { IfOk result (λ text. text.items ≡ shown_text bytes.now log.now place window.now) }
+{
+    match window {
+        Some(window) => window_text(alloc, bytes, window),
+        None => lost_text(alloc, bytes, place, end_of(log.ops.as_slice(), place)),
+    }
+}
+
+fn window_text(alloc: Global, bytes: &[u8], window: &Window) -> Result<Vec<u8>, AllocError>
+    ensures { IfOk result (λ text. text.items
+        ≡ together_text bytes.now window.now.first window.now.last window.now.places.items) }
+{
+    let places = window.places.as_slice();
+    together_text(alloc, bytes, window.first, window.last, places)
 }
 
 /// When the operation at a place ended.

@@ -13,8 +13,8 @@ use read_document::are_lines;
 use std::alloc::Global;
 
 /// The answer of the command `order` to the bytes of a document: a lawful order of its log, or the reason why there is
-/// none. A log in lines is told by its first line, and one whose records repeat too. For any other one in lines there
-/// is a choice of what is printed.
+/// none. A log in lines is told by its first line, and one whose records repeat too, for which there is a budget. For
+/// any other one in lines there is a choice of what is printed, and of the status where little is shown.
 pub fn order(alloc: Global, show: Show, bytes: &[u8]) -> Result<Answer, Fault>
     ensures { GivesReply (IsOrderAnswer show bytes.now) result }
 {
@@ -32,10 +32,10 @@ fn order_in_lines(alloc: Global, show: Show, bytes: &[u8]) -> Result<Answer, Fau
 {
     let repeats = has_repeats(alloc, bytes)?;
     if repeats {
-        order_exchanges(alloc, bytes)
+        order_exchanges(alloc, show.budget, bytes)
     } else if show.small {
-        order_small(alloc, bytes)
+        order_small(alloc, show.strict, bytes)
     } else {
-        order_lines(alloc, show.order, bytes)
+        order_lines(alloc, show, bytes)
     }
 }

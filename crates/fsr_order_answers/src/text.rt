@@ -2,6 +2,7 @@
 ghost use Rattle.std.specs.Prelude.{◌≡◌, ◌++◌, ◌*◌, nat_lt, IfOk, OnOk};
 ghost use Rattle.std.specs.Fmt.{decimal};
 ghost use Rattle.fsr_order_answers.specs.Text.{count_text, counts_text, end_text, lines_text, little_text, shown_text};
+ghost use Rattle.fsr_order_answers.specs.Text.{shows_little};
 
 use history_core::LogAnswer;
 use itoa::Buffer;
@@ -52,6 +53,13 @@ fn push_little(
     } else {
         Ok(())
     }
+}
+
+/// Whether this says something of a lawful log.
+pub(crate) fn shows_little(log: &LinesLog) -> bool
+    ensures { result ≡ shows_little log.now }
+{
+    log.ops == 0 || are_few(log.read, log.records)
 }
 
 /// Whether these are less than one of a hundred.

@@ -3,3 +3,4 @@ pub mod Lost
 pub mod Named
 pub mod Sentences
 pub mod Text
+pub mod Together

@@ -1,13 +1,15 @@
-//! The verdict on a log in lines, as it is printed: a reason by lines, the lines that it names and a sentence; or the
-//! line at which a log is lost.
+//! The verdict on a log in lines, as it is printed: a reason by lines, the lines that it names and a sentence; the
+//! line at which a log is lost, or the lines of a window.
 #![tactic(auto)]
 
 mod lost;
 mod named;
 mod sentence;
 mod text;
+mod together;
 
 pub use lost::lost_text;
 pub use named::{in_kept, is_named, places_of};
 pub use sentence::{push_u64, push_words};
 pub use text::verdict_text;
+pub use together::together_text;

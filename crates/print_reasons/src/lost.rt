@@ -38,7 +38,7 @@ fn push_sentence(text: &mut Vec<u8>, place: usize, end: u64) -> Result<(), Alloc
 }
 
 /// The line of the operation at a place.
-fn line_in(bytes: &[u8], place: usize) -> &[u8]
+pub(crate) fn line_in(bytes: &[u8], place: usize) -> &[u8]
     ensures { result.now ≡ line_in bytes.now place }
 {
     let mut rest = body_of(bytes);

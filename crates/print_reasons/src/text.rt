@@ -54,7 +54,7 @@ fn push_writes(text: &mut Vec<u8>, writes: &[usize]) -> Result<(), AllocError>
     text.extend_from_slice(b"\n")
 }
 
-fn push_write_lines(text: &mut Vec<u8>, writes: &[usize]) -> Result<(), AllocError>
+pub(crate) fn push_write_lines(text: &mut Vec<u8>, writes: &[usize]) -> Result<(), AllocError>
     ensures { OnOk result (text.new.items ≡ text.old.items ++ write_lines writes.now) }
 {
     for place in writes {

@@ -6,5 +6,7 @@ mod lock;
 mod logs;
 #[cfg(test)]
 mod steps;
+#[cfg(test)]
+mod windows;
 
 pub use lock::{Lock, Turn};

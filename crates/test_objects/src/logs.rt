@@ -7,7 +7,7 @@ use object_sweep::{SweepError, Verdict, sweep};
 use std::alloc::Global;
 
 /// An operation that ended and took effect.
-fn done<W>(starts: u64, ends: u64, what: W) -> Operation<W> {
+pub(crate) fn done<W>(starts: u64, ends: u64, what: W) -> Operation<W> {
     Operation {
         starts,
         ends: Some(ends),
@@ -27,7 +27,7 @@ fn perhaps<W>(starts: u64, ends: u64, what: W) -> Operation<W> {
 }
 
 /// One that never ended.
-fn unfinished<W>(starts: u64, what: W) -> Operation<W> {
+pub(crate) fn unfinished<W>(starts: u64, what: W) -> Operation<W> {
     Operation {
         starts,
         ends: None,

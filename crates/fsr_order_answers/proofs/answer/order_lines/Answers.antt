@@ -2,7 +2,7 @@
 use Rattle.std.proofs.Common.{Ok}
 use Rattle.std.specs.Prelude.{unwrap_or}
 use Rattle.fsr_order_answers.specs.LinesAnswers.{Found}
-use Rattle.fsr_order_answers.proofs.StatusLemmas.{low_lines}
+use Rattle.fsr_order_answers.proofs.StatusLemmas.{status_lines}
 use Rattle.fsr_order_answers.proofs.answer.order_lines.Goals as goal
 
 pub returns-in-Ok-answer_log-clause-gives : goal.returns-in-Ok-answer_log-clause-gives
@@ -20,11 +20,11 @@ returns-in-Ok-answer_log-clause-gives c =
       told = told.5;
     }
 
-pub returns-in-Ok-answer_log-clause-low : goal.returns-in-Ok-answer_log-clause-low
-returns-in-Ok-answer_log-clause-low c =
+pub returns-in-Ok-answer_log-clause-status : goal.returns-in-Ok-answer_log-clause-status
+returns-in-Ok-answer_log-clause-status c =
     let log = c.in-Ok.ensures.log in
     let told = c.in-Ok-answer_log.ensures (unwrap_or log.1.head.limit 1) log.0 log.1.thinned in
-    let found : Found c.args.order c.args.bytes.now c.in-Ok-answer_log.answer = record {
+    let found : Found c.args.show c.args.bytes.now c.in-Ok-answer_log.answer = record {
       log = log.0;
       read = c.in-Ok.log;
       found = told.0;
@@ -34,4 +34,4 @@ returns-in-Ok-answer_log-clause-low c =
       most = told.1;
       counted = told.4;
       told = told.5;
-    } in low_lines c.args.order c.args.bytes.now (Ok c.in-Ok-answer_log.answer) found
+    } in status_lines c.args.show c.args.bytes.now (Ok c.in-Ok-answer_log.answer) found

@@ -3,4 +3,10 @@ use Rattle.std.proofs.lemmas.Result.{IfOk-weaker}
 use Rattle.fsr_order_answers.proofs.exchanges.answer_log.Goals as goal
 
 pub returns : goal.returns
-returns c = IfOk-weaker c.print.result _ _ (λ reply told. (c.in_ok-verdict.verdict, c.in_ok-verdict.ensures, told)) c.print.ensures
+returns c = IfOk-weaker c.print.result _ _ (λ reply told. (
+  c.in_ok-verdict.verdict,
+  c.in_ok-window.window,
+  c.in_ok-verdict.ensures,
+  c.in_ok-window.ensures,
+  told,
+)) c.print.ensures

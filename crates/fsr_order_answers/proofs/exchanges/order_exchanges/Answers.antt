@@ -9,4 +9,5 @@ returns-in-Err c = λ other. inr c.in-Err.ensures.fault
 pub returns-in-Ok-answer_log : goal.returns-in-Ok-answer_log
 returns-in-Ok-answer_log c =
     let told = c.in-Ok-answer_log.ensures in
-    judged c.args.bytes.now c.in-Ok.log told.0 c.in-Ok.ensures.log told.1 c.in-Ok-answer_log.reply told.2
+    judged c.args.budget c.args.bytes.now c.in-Ok.log told.0 told.1 c.in-Ok.ensures.log told.2 told.3 c.in-Ok-answer_log.reply
+    told.4

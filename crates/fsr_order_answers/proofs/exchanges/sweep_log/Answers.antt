@@ -4,11 +4,11 @@ use Rattle.object_core.specs.declared.operation.Operation.{Operation}
 use Rattle.object_registers.specs.Registers.{exchanging_after}
 use Rattle.object_registers.specs.declared.exchanging.Exchange.{Exchange}
 use Rattle.object_sweep.specs.Verdicts.{IsSweepVerdict}
-use Rattle.fsr_order_answers.specs.Exchanges.{most_configurations, opened}
+use Rattle.fsr_order_answers.specs.Exchanges.{opened}
 use Rattle.fsr_order_answers.proofs.exchanges.sweep_log.Goals as goal
 
 pub returns-in-Ok : goal.returns-in-Ok
 returns-in-Ok c =
     let P : List (Operation Exchange) → Type 0 =
-    λ ops. IsSweepVerdict exchanging_after opened ops most_configurations c.in-Ok.verdict in
+    λ ops. IsSweepVerdict exchanging_after opened ops c.args.budget c.in-Ok.verdict in
     subst P c.as_slice.ensures.value c.in-Ok.ensures
