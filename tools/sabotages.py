@@ -1,6 +1,7 @@
 """By hand: faults planted in the tests themselves, each of which a test has to notice.
 
     tools/sabotages.py [--prefix PREFIX] [WORD..]      with words those alone whose names or tests have one of them
+    tools/sabotages.py --fit                           only whether each edit's old text stands once in its file
 
 Each row is an edit of one file in a copy of the repository, over what is built here. The script below which it stands has to fail then, and
 passes over the copy as it is; recorder.sh makes all its checks only with the PREFIX of an installed library. An edit's old text stands once in
@@ -38,11 +39,12 @@ ROWS = {
         ("a control by any sums", OUTCOMES, """if [ "$tally" != '0 passed, 1 failed' ]; then""", "if false; then"),
         ("a control over the tree that always passes", OUTCOMES, "catches_in_tree() {", 'catches_in_tree() { pass "planted: $1"; return'),
         ("an edit of the tree that changes nothing", OUTCOMES, ONCE_IN_TREE, "if false; then"),
-        ("another script's failures are forgotten", TEST, "failed=$((failed + more_failed))", ""),
+        ("another script's failures are forgotten", OUTCOMES, "passed=$((passed + more_passed)) failed=$((failed + more_failed))",
+         "passed=$((passed + more_passed))"),
         ("a library by the status of its build alone", "build/library.sh", '&& is_verdict aarch64 "$told_again"', ""),
         ("numbers that aren't compared", CHECKS, "elif is_alike and counted[name] != numbers[name]:", "elif False:"),
         ("a script that wasn't run", CHECKS, "for name in counted if only else {**numbers, **counted}:", "for name in counted:"),
-        ("a script without a check", CHECKS, "elif counted[name] == 0:", "elif False:"),
+        ("a script without a check", CHECKS, "elif counted[name] == 0 and not (name in OPTIONAL and {*tools} - {*here}):", "elif False:"),
         ("scripts with tools aren't compared", CHECKS, IS_ALIKE, "is_alike = not tools"),
         ("numbers that are written", TEST, 'checks.py "$@" "$counted" >', 'checks.py --write "$counted" >'),
         ("no comparison at the end", TEST, "run tests/gate/checks.sh compare_checks }", "run tests/gate/checks.sh\n}"),
@@ -70,7 +72,7 @@ ROWS = {
         ("any status for a thread that can't start", OUTCOMES, 'if [ "$status" = 6 ] && [ ! -s "$room/out" ] &&', 'if [ "$status" != 0 ] &&'),
     ],
     "tests/programs/refusals.sh": [
-        ("refusals that end early", REFUSALS, "table_of order table_of play", "table_of order\n    return 0\n    table_of play"),
+        ("refusals that end early", REFUSALS, "order_lines.txt table_of play", "order_lines.txt\n    return 0\n    table_of play"),
         ("one row of each table", REFUSALS, "rows=$((rows + 1))", "rows=$((rows + 1)); [ $rows -lt 2 ] || break"),
         ("no smaller program", REFUSALS, 'ends fsr "$1" && { [ "$1" = race ] || ends "fsr_$1"; }', 'ends fsr "$1"'),
         ("any word on the other stream", REFUSALS, '&& [ ! -s "$room/$other" ] &&', "&&"),
@@ -118,12 +120,25 @@ def passes(folder, script):
     return done.returncode == 0 and not failed, (failed or said or ["nothing"])[0]
 
 
-def is_noticed(folder, script, path, old, new):
-    """Whether the script fails over the edit, and what it says."""
+def places_of(path, old):
+    """A file's text, a pattern for this text in it, and how often it stands there."""
     with open(f"{TOP}/{path}", encoding="utf-8") as file:
         text = file.read()
     pattern = r"\s+".join(re.escape(word) for word in old.split())
-    found = len(re.findall(pattern, text))
+    return text, pattern, len(re.findall(pattern, text))
+
+
+def unfit():
+    """Each edit whose old text doesn't stand once in its file."""
+    for name, path, old, _ in (row for rows in ROWS.values() for row in rows):
+        found = places_of(path, old)[2]
+        if found != 1:
+            yield f"{name}: its old text stands {found} times in {path}"
+
+
+def is_noticed(folder, script, path, old, new):
+    """Whether the script fails over the edit, and what it says."""
+    text, pattern, found = places_of(path, old)
     if found != 1:
         return False, f"its old text stands {found} times in {path}"
     with open(f"{folder}/{path}", "w", encoding="utf-8") as file:
@@ -151,8 +166,13 @@ def try_script(folder, script, rows):
 def main():
     parser = argparse.ArgumentParser(description=__doc__, formatter_class=argparse.RawDescriptionHelpFormatter)
     parser.add_argument("--prefix")
+    parser.add_argument("--fit", action="store_true")
     parser.add_argument("words", nargs="*", metavar="WORD")
     given = parser.parse_args()
+    if given.fit:
+        faults = list(unfit())
+        print("\n".join(faults) or f"{sum(map(len, ROWS.values()))} edits fit")
+        return 1 if faults else 0
     words = given.words
     PREFIX[:] = [os.path.abspath(given.prefix)] if given.prefix else []
 

@@ -171,8 +171,8 @@ const inUnits = (number, unit) => `${number.toFixed(number < 10 ? 1 : 0)} ${unit
 const sizeOf = bytes => (bytes < 1e3 ? `${bytes} bytes` : bytes < 1e6 ? inUnits(bytes / 1e3, "kB") : inUnits(bytes / 1e6, "MB"));
 const timeOf = ms => (ms < 1e3 ? inUnits(ms, "ms") : inUnits(ms / 1e3, "s"));
 
-// What an answer to a log in lines says beside its verdict: which line is wrong, or how little the log shows.
-const SAYS = /^(Lines? \d|Up to the end of line \d|(Little|Nothing) was shown)/;
+// What an answer to a log in lines says beside its verdict: what is wrong, or how little the log shows.
+const SAYS = /^(Lines? \d|Up to the end of line \d|From time \d|(Little|Nothing) was shown)/;
 
 // The sentence of an answer: the program's own, where it prints one, else that of the picture.
 function sentenceOf(data, text) {

@@ -311,11 +311,14 @@ static int kill_one(cell_shared *cell, int kind) {
     return take_over(cell, kind);
 }
 
+/* Whether there are more victims: as many as are wanted, and where each or none of them died within a call some more, for chance. */
+static int goes_on(unsigned long wanted) { return kills < wanted || ((!cut || cut == kills) && kills < 4 * wanted + 200); }
+
 int main(int count, char **words) {
     const unsigned long wanted = count > 1 ? strtoul(words[1], NULL, 10) : 200;
     const uint64_t seed = count > 2 ? strtoull(words[2], NULL, 10) : 1;
     state = seed * 2862933555777941757u + 3037000493u;
-    while (kills < wanted) {
+    while (goes_on(wanted)) {
         int begun = 0;
         DO(root_create(&block, NULL, sizeof(struct root) + (size_t)(ROOM + 1) * (24576 + 12 * BYTES), &root));
 #if defined PLAIN || defined SEQUENCE
@@ -323,7 +326,7 @@ int main(int count, char **words) {
 #endif
         root->next = next;
         begin_cell(&root->cells[0]);
-        for (int k = 0; k < ROOM && kills < wanted; k++)
+        for (int k = 0; k < ROOM && goes_on(wanted); k++)
             if (kill_one(&root->cells[begun], (int)random_below(2))) {
                 if (++begun == ROOM) break;
                 begin_cell(&root->cells[begun]);

@@ -33,6 +33,14 @@ else
     fi
     catches_in_tree "a passage of another crate" "history_core and matrix_core share .* lines" crates/matrix_core/specs/Lib.antt \
         '$r crates/history_core/specs/Orders.antt' python3 tests/gate/duplicates.py
+    # The faults that are planted in the tests by hand still fit.
+    if python3 tools/sabotages.py --fit >"$room/out" 2>&1; then
+        pass "faults for the tests: $(cat "$room/out")"
+    else
+        fail "faults for the tests" "$(head -n 3 "$room/out" | tr '\n' ' ')"
+    fi
+    catches_in_tree "a fault for the tests that doesn't fit" "numbers that .*: its old text stands 0 times" tools/sabotages.py \
+        's/elif is_alike and counted/elif is_alike or counted/' python3 tools/sabotages.py --fit
 fi
 
 # Scripts have no error that shellcheck knows, and the headers whose functions are no macros have the layout of .clang-format, where these

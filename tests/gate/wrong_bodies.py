@@ -62,6 +62,7 @@ GONE = "has no field|has no module|has no `x`|is not in scope|was not admitted|n
 GONE_NAME = re.compile(rf"^(?:`x`: )?.{{,60}}?(?:{GONE})")
 DEPENDS = re.compile(r"declarations? that depends? on `([^`]+)`, which was (?:rejected|not admitted)")
 UNCHECKED = re.compile(r" (?:was|were) not checked: (.+)$")
+VIA = re.compile(r" \(via [^)]*\)")
 QUOTED = re.compile(r"`[^`]*`")
 DECLARED = re.compile(r"`([^`]+)`:")
 IN_VAIN = re.compile(r"note: src/\S+: it is not proved that ")
@@ -186,7 +187,7 @@ def is_gone_name(told):
 def declared_by(told):
     """The declarations that an error is of, without their modules: its own, or those that weren't checked as they depend on another one."""
     unchecked, declared = DEPENDS.search(told) and UNCHECKED.search(told), DECLARED.match(told)
-    names = unchecked[1].split(", ") if unchecked else [declared[1]] if declared else []
+    names = VIA.sub("", unchecked[1]).split(", ") if unchecked else [declared[1]] if declared else []
     return {it.strip("`").rpartition(".")[2] for it in names}
 
 

@@ -104,6 +104,8 @@ test_documents() {
     differs "an unsound race" race 's/^origin: sound/origin: task 0, entry 0/'
     differs "another line of what is lost" repeats 's/^unlawful lost /&1/'
     differs "a log that is lost told as lawful" repeats 's/^unlawful lost .*/lawful/'
+    differs "another beginning of a window" repeats 's/^From time \([0-9]*\)/&1/'
+    differs "a window without its first line" repeats 's/^unlawful together [0-9]*/unlawful together/'
     differs "what is uncertain as unfinished" repeats 's/ 0 unfinished, 1 uncertain/ 1 unfinished, 0 uncertain/'
     echo "1 line N: not JSON" >"$room/out"
     catches "a refusal that no log has" 'none is told: line N: no header' has_refused

@@ -281,7 +281,7 @@ if ! command -v python3 >/dev/null 2>&1; then
     fail "the recorder" "there is no python3"
 else
     counts "the plain judge of lines against all orders" python3 tests/programs/reference/compare_lines.py --logs 2500
-    for word in ${built:+'' --order --small}; do
+    for word in ${built:+'' --order --small --strict}; do
         counts "fsr order${word:+ $word} against all orders" python3 tests/programs/reference/compare_small_lines.py --logs 1000 -- $built $word
     done
     counts "converters" python3 tests/programs/converters.py

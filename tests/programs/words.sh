@@ -60,6 +60,13 @@ refuses_unread error: check examples/lawful.json examples/lawful.json
 refuses_unread error: check --order
 refuses_unread error: order --ordr
 refuses_unread error: order --order --order
+refuses_unread error: order --strict --strict
+refuses_unread error: check --strict
+for number in '' 0 1000000001 -1 1.5 ten 18446744073709551617; do
+    refuses_unread error: order --budget $number
+done
+refuses_unread error: order --budget=
+refuses_unread error: order --budget 5 --budget 6
 
 # What is asked for stands on standard output, with status 0, and nothing is read.
 #   gives_unread BEGINS WORDS..
@@ -158,7 +165,8 @@ says_the_same
 catches_in_tree "another word in a man page" "docs/man/fsr.1 says other words" docs/man/fsr.1 's/Finds a lawful/Found a lawful/' \
     python3 tools/manual.py "$(pwd)/$built/fsr/out/fsr" "$(pwd)/$built/picture/out/picture"
 completes_to order fsr or
-completes_to --small fsr order --s
+completes_to '--small --strict' fsr order --s
+completes_to --budget fsr order --b
 completes_to examples/lawful.json fsr check examples/lawful.j
 
 # Sees that `fsr` ends with this status and has what stands in $room/wanted on this stream and nothing on the other. Its input is a folder,
@@ -217,6 +225,55 @@ ends_fsr 0 out order --order "$room/turned.jsonl"
 : >"$room/wanted"
 ends_fsr 0 out order --small "$room/turned.jsonl"
 ends_fsr 0 out order --order --small "$room/turned.jsonl"
+
+# Of 101 records, with the opening, one is read, and of 100 one. The first log shows little.
+writes_then_read() {
+    echo '{"kind":"lines","opening":0}'
+    for number in $(seq "$1"); do
+        echo '{"who":0,"kind":"write","begin":'$((2 * number))',"end":'$((2 * number + 1))',"record":'"$number}"
+    done
+    echo '{"who":1,"kind":"read","begin":'$((2 * $1 + 2))',"end":'$((2 * $1 + 3))',"record":'"$1}"
+}
+writes_then_read 100 >"$room/little.jsonl"
+writes_then_read 99 >"$room/enough.jsonl"
+echo '{"kind":"lines","opening":0}' >"$room/empty.jsonl"
+ends_fsr 8 out order --small --strict "$room/little.jsonl"
+printf 'lawful\nLittle was shown: less than 1 %% of the records were read.\n' >"$room/wanted"
+printf '101 operations, 0 unfinished, 101 records, 1 of them read; no last line `done`\n' >>"$room/wanted"
+ends_fsr 0 out order "$room/little.jsonl"
+ends_fsr 8 out order --strict "$room/little.jsonl"
+catches "a lawful log that shows little" "status 8 and not 0" ends_fsr 0 out order --strict "$room/little.jsonl"
+printf 'lawful\n100 operations, 0 unfinished, 100 records, 1 of them read; no last line `done`\n' >"$room/wanted"
+ends_fsr 0 out order --strict "$room/enough.jsonl"
+printf 'lawful\nNothing was shown: there is no operation.\n' >"$room/wanted"
+printf '0 operations, 0 unfinished, 1 records, 0 of them read; no last line `done`\n' >>"$room/wanted"
+ends_fsr 8 out order --strict "$room/empty.jsonl"
+# Logs whose records repeat and documents have no such words.
+cp examples/lines_cas.txt "$room/wanted"
+ends_fsr 0 out order --strict examples/lines_cas.jsonl
+cp examples/found_order.txt "$room/wanted"
+ends_fsr 0 out order --strict --budget 1 examples/found_order.json
+
+# Writes that begin one after the other, and then end so. Of n writes under way the last of each set that was placed stands in the register:
+# up to the first end n 2^(n-1) + 1 configurations are reached, of 12 writes 24,577, of two 5.
+writes_at_once() {
+    echo '{"kind":"lines","opening":0,"repeats":true}'
+    for number in $(seq "$1"); do
+        echo '{"who":'"$number"',"kind":"write","begin":'"$number"',"end":'$((20 + number))',"record":'"$number}"
+    done
+}
+writes_at_once 12 >"$room/twelve.jsonl"
+writes_at_once 2 >"$room/two.jsonl"
+echo 'fsr: line 2: too many configurations' >"$room/wanted"
+ends_fsr 7 err order "$room/twelve.jsonl"
+ends_fsr 7 err order --budget 1 "$room/two.jsonl"
+printf 'lawful\n12 operations, 0 unfinished, 0 uncertain, 13 records; no last line `done`\n' >"$room/wanted"
+ends_fsr 0 out order --budget 24577 "$room/twelve.jsonl"
+ends_fsr 0 out order --budget=1000000000 "$room/twelve.jsonl"
+printf 'lawful\n2 operations, 0 unfinished, 0 uncertain, 3 records; no last line `done`\n' >"$room/wanted"
+ends_fsr 0 out order --budget 5 "$room/two.jsonl"
+ends_fsr 0 out order "$room/two.jsonl"
+
 # The read of the opening is behind the write of line 2. That of line 4 has no part in it.
 cat >"$room/stale.jsonl" <<'LOG'
 {"kind":"lines","opening":0}
@@ -230,6 +287,7 @@ cat >"$room/wanted" <<'DOCUMENT'
  {"who":1,"kind":"read","begin":6,"end":8,"record":[0,0,0]}]}
 DOCUMENT
 ends_fsr 1 out order --small "$room/stale.jsonl"
+ends_fsr 1 out order --small --strict "$room/stale.jsonl"
 cp "$room/out" "$room/small.json"
 echo 'unlawful stale 0 1' >"$room/wanted"
 ends_fsr 1 out order "$room/small.json"
@@ -400,6 +458,8 @@ answers_small() {
 
 answers_small 0 "order --order" "$room/stale.jsonl" order --order "$room/stale.jsonl"
 answers_small 0 "order --small" "$room/stale.jsonl" order "$room/stale.jsonl" --small
+answers_small 0 "order --strict" "$room/stale.jsonl" order "$room/stale.jsonl" --strict
+answers_small 0 "order --budget 20000" "$room/stale.jsonl" order --budget 20000 "$room/stale.jsonl"
 answers_small 0 "order " examples/lawful.json order
 answers_small 1 "play " examples/cell.json play
 answers_small 3 "fsr: document: not JSON" examples/lawful.json check
@@ -422,7 +482,7 @@ catches "a closed standard error that isn't heeded" "it ended with status 70" an
 mv "$room/bare/build/build.sh.kept" "$room/bare/build/build.sh"
 
 # Words that no smaller program knows are for the whole one.
-for words in 'order --order --small' 'order -x' 'check --order' "check $room/nowhere"; do
+for words in 'order --order --small' 'order --budget' 'order --budget 1x' 'order -x' 'check --order' "check $room/nowhere"; do
     gives_unbuilt 70 '' 'build: ' $words
 done
 

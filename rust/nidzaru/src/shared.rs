@@ -383,7 +383,17 @@ impl<T: Record> Reader<'_, T, Triple> {
     }
 }
 
-/// A board of `N` places in a block, with their claims; C calls it `NAME_shared`, below `NIDZARU_SHARED_BOARD(NAME, N)`.
+/// A board of `N` places in a block, with their claims; C calls it `NAME_shared`, below `NIDZARU_SHARED_BOARD(NAME, N)`. It has 2 to 16:
+///
+/// ```compile_fail,E0080
+/// use nidzaru::shared::{Block, Board, BlockError};
+/// nidzaru::shared_record! { struct One { word: u64 } }
+/// nidzaru::shared_block! { struct Root: "struct root" { alone: Board<One, 1> } }
+/// fn make(block: &Block<Root>) -> Result<(), BlockError> {
+///     block.root().alone.make(block, &One { word: 0 })
+/// }
+/// # let _: fn(&Block<Root>) -> Result<(), BlockError> = make;
+/// ```
 #[repr(C)]
 pub struct Board<T: Record, const N: usize, M: Mechanism = FourSlot> {
     item: Item,

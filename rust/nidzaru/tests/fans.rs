@@ -41,7 +41,9 @@ fn each_call_at_each_size() {
 #[test]
 fn a_fan_of_one_reader() {
     let (mut writer, [mut reader]) = fan(1).unwrap();
+    assert_eq!((reader.number(), reader.has_news()), (0, false));
     writer.write(&2).unwrap();
+    assert_eq!((reader.news(), reader.number()), (Some(2), 1));
     assert_eq!((reader.latest(), reader.number()), (2, 1));
     assert_eq!(format!("{writer:?}"), "FanWriter { .. }");
 }

@@ -31,6 +31,9 @@ nidzaru::shared_block! {
 nidzaru::shared_block! {
     struct Other: "struct other" at 0x2100_0000_0000 { limits: Register<Limits>, seen: AtomicU64 }
 }
+nidzaru::shared_block! {
+    struct Boards: "struct boards" at 0x2200_0000_0000 { pair: Board<Limits, 2>, most: Board<Limits, 16> }
+}
 
 const BYTES: usize = 1 << 20;
 
@@ -249,6 +252,24 @@ fn sides_are_claimed_by_one_thread() {
 }
 
 #[test]
+fn boards_of_two_and_of_sixteen_tell_what_is_new() {
+    let _alone = alone();
+    let name = format!("/nidzaru-boards-{}", std::process::id());
+    let block = unsafe { Block::<Boards>::create(&name, BYTES) }.unwrap();
+    block.unlink(&name).unwrap();
+    let Boards { pair, most } = block.root();
+    pair.make(&block, &limits(0)).unwrap();
+    most.make(&block, &limits(0)).unwrap();
+    for (mut one, mut other) in
+        [(pair.claim(&block, 0).unwrap(), pair.claim(&block, 1).unwrap()), (most.claim(&block, 15).unwrap(), most.claim(&block, 7).unwrap())]
+    {
+        assert_eq!((one.news(), other.news()), (None, None));
+        let stamp = one.write(&limits(1)).unwrap();
+        assert_eq!((other.news(), other.stamp(), other.news(), one.news()), (Some(limits(1)), stamp, None, None));
+    }
+}
+
+#[test]
 fn memory_is_the_blocks_alone() {
     let _alone = alone();
     let name = format!("/nidzaru-memory-{}", std::process::id());
@@ -307,7 +328,7 @@ fn a_side_that_was_cut_off_is_refused() {
     drop(reader);
     for _ in 0..2 {
         change(name, handle as u64 + 96, 255);
-        drop(root.limits.recover_reader(block).unwrap());
+        assert_eq!(root.limits.recover_reader(block).unwrap().number(), 0, "it has read nothing");
     }
     change(name, handle as u64 + 96, 255);
     let mut reader = root.limits.recover_reader(block).unwrap();

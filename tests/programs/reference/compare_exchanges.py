@@ -2,7 +2,7 @@
 
     compare_exchanges.py PROGRAM [--logs N] [--seed S]
 
-Half of them are judged with `--order` or `--small`, which change nothing. A few have a header that makes them logs whose records are written
+Two thirds of them are judged with words that change nothing. A few have a header that makes them logs whose records are written
 once, or none. The last lines are how many logs gave the same bytes and status, by kind of ending, and how many there were, by their verdict.
 The first difference ends the run with status 1, with the log kept in the file that is named. None at all is status 1.
 """
@@ -21,9 +21,9 @@ import documents
 import exchanges
 import make_exchanges
 import small_lines
+import windows
 
-
-WORDS = ([], [], ["--order"], ["--small"])
+WORDS = ([], [], ["--order"], ["--small"], ["--strict"], ["--budget", "20000"])
 
 
 def kind_of(data):
@@ -44,7 +44,11 @@ def answer_of(kind, data):
 
 
 def agree(kind, data, words, found, wanted):
-    return compare_small_lines.agree(data, found, wanted, words) if kind == "once" else found == wanted
+    if kind == "once":
+        return compare_small_lines.agree(data, found, wanted, words)
+    if kind == "repeats" and wanted[2] == 1:
+        return found[1:] == wanted[1:] and windows.is_right(data, found[0])
+    return found == wanted
 
 
 def ended(command, data):

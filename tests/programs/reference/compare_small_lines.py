@@ -3,7 +3,8 @@
     compare_small_lines.py PROGRAM [--logs N] [--seed S] [WORD ..]
 
 The program is run with these words. With `--order` among them the order of the writes has to be one of a lawful order, and with `--small`
-the small log has to be that of a reason, which breaks the same rule. The last line is how many logs had the same bytes and status, by kind of ending; the first
+the small log has to be that of a reason, which breaks the same rule. With `--strict` the status has to be 8 exactly where the reference
+says of a lawful log how little it shows. The last line is how many logs had the same bytes and status, by kind of ending; the first
 difference ends the run with status 1, with the log kept in the file that is named. Which reason of a rule is told is free: it has to be one
 by the reference, which tries every order.
 """
@@ -88,7 +89,15 @@ def is_small(data, text, rule, reasons):
     return text in {small_lines.small(data, lines) for lines in reasons} and searches.search((0, 0, 0), made["limit"], ops)[0] == rule
 
 
+def says_little(wanted):
+    return wanted[2] == 0 and wanted[0].split("\n")[1].endswith((" there is no operation.", " of the records were read."))
+
+
 def agree(data, found, wanted, words):
+    if "--strict" in words and says_little(wanted):
+        if found[2] != 8:
+            return False
+        found = (*found[:2], 0)
     if "--small" in words and wanted[2] == 0:
         return found == ("", "", 0)
     if "--small" in words and wanted[2] == 1:
