@@ -4,7 +4,7 @@ _fsr() {
     case $COMP_CWORD:${COMP_WORDS[1]} in
     1:*) words='check order play race help -h --help -V --version' ;;
     *:check) words='-h --help' ;;
-    *:order) words='--order --small -h --help' ;;
+    *:order) words='--order --small --strict --budget -h --help' ;;
     *:play) words='-h --help' ;;
     *:race) words='-h --help' ;;
     esac
