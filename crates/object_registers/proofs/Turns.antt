@@ -1,20 +1,20 @@
 -- Where a test of the state changes along an order, and what that says of two registers.
-use Rattle.std.proofs.Common.{◌≡◌, ◌≢◌, ℕ, ◌+◌, ◌-◌, ◌<◌, ◌≤◌, ◌&&◌, not, Bool, true, false, cond, nat_eq, nat_lt, List, [], ◌∷◌, slice_get}
+use Rattle.std.proofs.Common.{◌≡◌, ◌≢◌, ℕ, ◌+◌, ◌-◌, ◌<◌, ◌≤◌, ◌&&◌, not, Bool, true, false, cond, nat_eq, List, [], ◌∷◌, slice_get}
 use Rattle.std.proofs.Common.{Option, None, Some, refl, sym, ◌∙◌, ap, subst, arith, ◌⊎◌, inl, inr}
-use Rattle.std.proofs.lemmas.Bool.{cases_eq, cases_lt}
+use Rattle.std.proofs.lemmas.Bool.{cases_lt}
 use Rattle.std.proofs.lemmas.Bool.Decides.{nat_tests}
 use Rattle.std.proofs.lemmas.Option.{same_Some}
 use Rattle.history_core.proofs.Listing.{times_cons}
 use Rattle.history_core.specs.Orders.{times_of}
 use Rattle.object_core.specs.declared.operation.Operation.{Operation}
-use Rattle.object_core.specs.Logs.{CanMake, IsLinearizable, IsListing, is_due, KeepsPrecedence, MayStand, Precedes}
+use Rattle.object_core.specs.Logs.{CanMake, IsLinearizable, is_due, KeepsPrecedence, MayStand, Precedes}
 use Rattle.object_registers.specs.declared.exchanging.Exchange.{Exchange}
 use Rattle.object_registers.specs.declared.exchanging.Exchange.TheVariants.{Sets, Gets, Swaps, Misses, Finds, Tries}
 use Rattle.object_registers.specs.declared.exchanging.Exchanging.{Exchanging}
 use Rattle.object_registers.specs.declared.limited.Access.{Access}
 use Rattle.object_registers.specs.declared.limited.Access.TheVariants.{Writes, Reads, IsRefused}
 use Rattle.object_registers.specs.declared.limited.Limited.{Limited}
-use Rattle.object_registers.specs.Registers.{exchanging_after, IsWriteFor, limited_after, Makes}
+use Rattle.object_registers.specs.Registers.{exchanging_after, found_by, IsWriteFor, limited_after, Makes}
 
 -- an entry more in front adds to how often its own place stands, and to no other
 pub times_here : (p : ℕ) (rest : List ℕ) → times_of p (p ∷ rest) ≡ 1 + times_of p rest
@@ -222,17 +222,40 @@ made s t value (Tries from to) e ne is = by_test (nat_eq s.held from) e
     by_test true f = ap (λ (z : Exchanging). z.held) (same_Some (record { held = to }) t f) ∙ is
     by_test false f = absurd (ne (ap (λ (z : Exchanging). z.held) (same_Some s t f) ∙ is))
 
-pub read_made : (opening : Exchanging) (log : List (Operation Exchange)) (p value : ℕ) (o : Operation Exchange) →
-    IsLinearizable exchanging_after opening log → slice_get log p ≡ Some o → is_due o ≡ true → o.what ≡ Gets value →
-    value ≢ opening.held → (q : ℕ) × (a : Operation Exchange) × (slice_get log q ≡ Some a) × (¬ Precedes o a) × Makes value a.what
-read_made opening log p value o lawful at due is other =
+-- whoever found a record finds it held
+finds : (s t : Exchanging) (value : ℕ) (what : Exchange) → found_by what ≡ Some value → exchanging_after s what ≡ Some t →
+    nat_eq s.held value ≡ true
+finds s t value (Sets to) is e = cc
+finds s t value (Gets seen) is e = by_test (nat_eq s.held seen) refl e
+  where
+    by_test : (b : Bool) → nat_eq s.held seen ≡ b → cond b (Some s) None ≡ Some t → nat_eq s.held value ≡ true
+    by_test true h f = ap (λ z. nat_eq s.held z) (sym (same_Some seen value is)) ∙ h
+    by_test false h f = cc
+finds s t value (Swaps from to) is e = by_test (nat_eq s.held from) refl e
+  where
+    by_test : (b : Bool) → nat_eq s.held from ≡ b → cond b (Some (record { held = to })) None ≡ Some t → nat_eq s.held value ≡ true
+    by_test true h f = ap (λ z. nat_eq s.held z) (sym (same_Some from value is)) ∙ h
+    by_test false h f = cc
+finds s t value (Misses from) is e = cc
+finds s t value (Finds from found) is e = by_tests (nat_eq s.held found) (not (nat_eq from found)) refl e
+  where
+    by_tests : (a b : Bool) → nat_eq s.held found ≡ a → cond (a && b) (Some s) None ≡ Some t → nat_eq s.held value ≡ true
+    by_tests true b h f = ap (λ z. nat_eq s.held z) (sym (same_Some found value is)) ∙ h
+    by_tests false b h f = cc
+finds s t value (Tries from to) is e = cc
+
+pub found_made : (opening : Exchanging) (log : List (Operation Exchange)) (p value : ℕ) (o : Operation Exchange) →
+    IsLinearizable exchanging_after opening log → slice_get log p ≡ Some o → is_due o ≡ true → found_by o.what ≡ Some value →
+    value ≢ opening.held →
+    (q : ℕ) × (a : Operation Exchange) × (q ≢ p) × (slice_get log q ≡ Some a) × (¬ Precedes o a) × Makes value a.what
+found_made opening log p value o lawful at due is other =
     let h = lawful.1 in
     let test : Exchanging → Bool = λ s. nat_eq s.held value in
     let not_yet : nat_eq opening.held value ≡ false = test_fails opening.held value (λ e. other (sym e)) in
     let stood = stands (is_due o) _ due (h.listing p o at) in
     let r = turned exchanging_after log test p o at only lawful.0 opening h.precedence h.steps stood not_yet in
     let other_before = unequal r.old.held value r.before in
-    (r.place, r.by, r.at, r.free, made r.old r.new value r.by.what r.step other_before (equal r.new.held value r.behind))
+    (r.place, r.by, apart r, r.at, r.free, made r.old r.new value r.by.what r.step other_before (equal r.new.held value r.behind))
   where
     test_fails : (m n : ℕ) → m ≢ n → nat_eq m n ≡ false
     test_fails m n ne = grind (arith, nat_tests)
@@ -243,9 +266,13 @@ read_made opening log p value o lawful at due is other =
     unequal : (m n : ℕ) → nat_eq m n ≡ false → m ≢ n
     unequal m n e f = grind (arith, nat_tests)
 
-    gets : (s t : Exchanging) (b : Bool) → cond b (Some s) None ≡ Some t → b ≡ true
-    gets s t true e = refl
-    gets s t false e = cc
-
     only : (s t : Exchanging) → exchanging_after s o.what ≡ Some t → nat_eq s.held value ≡ true
-    only s t e = gets s t (nat_eq s.held value) (subst (λ w. exchanging_after s w ≡ Some t) is e)
+    only s t e = finds s t value o.what is e
+
+    apart : (r : Turn exchanging_after log (λ s. nat_eq s.held value) lawful.0 o) → r.place ≢ p
+    apart r e =
+        let f : slice_get log p ≡ Some r.by = subst (λ z. slice_get log z ≡ Some r.by) e r.at in
+        let same : r.by ≡ o = same_Some r.by o (sym f ∙ at) in
+        let P : Operation Exchange → Type 0 = λ z. exchanging_after r.old z.what ≡ Some r.new in
+        let t : nat_eq r.old.held value ≡ true = only r.old r.new (subst P same r.step) in
+        let b = r.before in cc

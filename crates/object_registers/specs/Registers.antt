@@ -37,3 +37,12 @@ Makes value (Swaps from to) = to ≡ value
 Makes value (Misses from) = ⊥
 Makes value (Finds from found) = ⊥
 Makes value (Tries from to) = to ≡ value
+
+-- the record that an operation found, if it says which
+abbrev pub found_by : Exchange → Option ℕ
+found_by (Sets to) = None
+found_by (Gets seen) = Some seen
+found_by (Swaps from to) = Some from
+found_by (Misses from) = None
+found_by (Finds from found) = Some found
+found_by (Tries from to) = None

@@ -3,7 +3,7 @@
 ghost use Rattle.std.specs.Prelude.{◌≡◌, ◌≢◌, ℕ, ◌≤◌, true, List, slice_get, Some};
 ghost use Rattle.object_core.specs.declared.operation.Operation.{Operation};
 ghost use Rattle.object_core.specs.Logs.{IsLinearizable, is_due, Precedes};
-ghost use Rattle.object_registers.specs.Registers.{exchanging_after, IsWriteFor, limited_after, Makes};
+ghost use Rattle.object_registers.specs.Registers.{exchanging_after, found_by, IsWriteFor, limited_after, Makes};
 
 use crate::{Access, Exchange, Exchanging, Limited};
 
@@ -16,11 +16,12 @@ pub fn refused_behind_writes()
         (q r : ℕ) × (q ≢ r) × IsWriteFor o log q × IsWriteFor o log r }
 {}
 
-/// A read that is sure to have been made, of another record than the opening: something that can leave it didn't begin
-/// after its end.
-pub fn read_is_made()
+/// An operation that is sure to have found another record than the opening: another operation that can leave that
+/// didn't begin after its end.
+pub fn found_is_made()
     ensures { (opening : Exchanging) (log : List (Operation Exchange)) (p value : ℕ) (o : Operation Exchange) →
         IsLinearizable exchanging_after opening log → slice_get log p ≡ Some o → is_due o ≡ true →
-        o.what ≡ Exchange.Gets value → value ≢ opening.held →
-        (q : ℕ) × (a : Operation Exchange) × (slice_get log q ≡ Some a) × (¬ Precedes o a) × Makes value a.what }
+        found_by o.what ≡ Some value → value ≢ opening.held →
+        (q : ℕ) × (a : Operation Exchange) × (q ≢ p) × (slice_get log q ≡ Some a) × (¬ Precedes o a)
+        × Makes value a.what }
 {}

@@ -5,6 +5,8 @@ mod lock;
 #[cfg(test)]
 mod logs;
 #[cfg(test)]
+mod sources;
+#[cfg(test)]
 mod steps;
 #[cfg(test)]
 mod windows;

@@ -1,0 +1,2 @@
+-- The laws, and what each step finds.
+pub mod Sourced

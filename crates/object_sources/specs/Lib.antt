@@ -1,0 +1,3 @@
+-- What the contracts speak of.
+pub mod Sources
+pub mod inner

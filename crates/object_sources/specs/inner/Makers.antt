@@ -1,0 +1,27 @@
+-- The first operation that can leave a record. Only private functions cite this.
+use Rattle.std.specs.Prelude.{◌≡◌, ℕ, ◌<◌, ◌≤◌, Bool, true, nat_lt, List, slice_get, Option, None, Some, option_map, unwrap_or}
+use Rattle.object_core.specs.declared.operation.Operation.{Operation}
+use Rattle.object_registers.specs.declared.exchanging.Exchange.{Exchange}
+use Rattle.object_sources.specs.Sources.{HasFound, MayLeave, IsUnsourced}
+use Rattle.object_sources.specs.declared.source.Unsourced.{Unsourced}
+
+-- when the operation at a place began
+abbrev pub starts_at : List (Operation Exchange) → ℕ → ℕ
+starts_at log q = unwrap_or (option_map (λ (o : Operation Exchange). o.starts) (slice_get log q)) 0
+
+-- it began before the first so far
+abbrev pub is_sooner : List (Operation Exchange) → ℕ → Option ℕ → Bool
+is_sooner log q None = true
+is_sooner log q (Some first) = nat_lt (starts_at log q) (starts_at log first)
+
+-- of the operations at places below n that can leave this record the first; none where there is none
+abbrev pub IsFirstBelow : List (Operation Exchange) → ℕ → ℕ → ℕ → Option ℕ → Type 0
+IsFirstBelow log place value n None = (q : ℕ) → q < n → ¬ MayLeave log place value q
+IsFirstBelow log place value n (Some write) =
+    MayLeave log place value write
+    × ((q : ℕ) → q < n → MayLeave log place value q → starts_at log write ≤ starts_at log q)
+
+-- why this operation can't have found this record
+abbrev pub IsUnsourcedOf : List (Operation Exchange) → ℕ → Operation Exchange → ℕ → Option Unsourced → Type 0
+IsUnsourcedOf log place op value why =
+    (opening : ℕ) → slice_get log place ≡ Some op → HasFound opening value op → IsUnsourced opening log place why
