@@ -2,7 +2,7 @@
 //! end; how it is found needs no proof.
 
 ghost use Rattle.std.specs.Prelude.{IfOk, IfSome, IsTrue};
-ghost use Rattle.object_window.specs.Together.{IsLostTogether};
+ghost use Rattle.object_window.specs.Together.{HasItsEnd, IsLostTogether};
 ghost use Rattle.object_window.specs.Windows.{IsLostAnywhere};
 
 use crate::loss::{Loss, loss_of};
@@ -36,26 +36,37 @@ pub fn find_window(
     log: &[Operation<Exchange>],
     place: usize,
 ) -> Result<Option<Window>, AllocError>
-    ensures { IfOk result (λ r. IfSome r (IsLostTogether log.now)) }
+    ensures { IfOk result (λ r. IfSome r (IsLostTogether log.now place)) }
 {
     let Some(last) = end_at(log, place) else {
         return Ok(None);
     };
-    let Some(window) = search(alloc, log, last)? else {
+    let Some((first, places)) = search(alloc, log, last)? else {
         return Ok(None);
     };
-    judge(alloc, log, window)
+    judge(
+        alloc,
+        log,
+        place,
+        Window {
+            first,
+            last,
+            places,
+        },
+    )
 }
 
 /// The window, if it is one and the log is lost in it.
 fn judge(
     alloc: Global,
     log: &[Operation<Exchange>],
+    place: usize,
     window: Window,
 ) -> Result<Option<Window>, AllocError>
-    ensures { IfOk result (λ r. IfSome r (IsLostTogether log.now)) }
+    requires { HasItsEnd log.now place window.last }
+    ensures { IfOk result (λ r. IfSome r (IsLostTogether log.now place)) }
 {
-    if is_lost_together(alloc, log, &window)? {
+    if is_lost_together(alloc, log, place, &window)? {
         Ok(Some(window))
     } else {
         Ok(None)
@@ -65,9 +76,11 @@ fn judge(
 fn is_lost_together(
     alloc: Global,
     log: &[Operation<Exchange>],
+    place: usize,
     window: &Window,
 ) -> Result<bool, AllocError>
-    ensures { IfOk result (λ b. IsTrue b → IsLostTogether log.now window.now) }
+    requires { HasItsEnd log.now place window.now.last }
+    ensures { IfOk result (λ b. IsTrue b → IsLostTogether log.now place window.now) }
 {
     match little_log(
         alloc,
@@ -107,24 +120,28 @@ fn is_lost_at(
     }
 }
 
-fn end_at(log: &[Operation<Exchange>], place: usize) -> Option<u64> {
+fn end_at(log: &[Operation<Exchange>], place: usize) -> Option<u64>
+    ensures { IfSome result (HasItsEnd log.now place) }
+{
     match log.get(place) {
         Some(op) => op.ends,
         None => None,
     }
 }
 
+/// The first moment of a window to this one, and the places of its operations.
 fn search(
     alloc: Global,
     log: &[Operation<Exchange>],
     last: u64,
-) -> Result<Option<Window>, AllocError> {
+) -> Result<Option<(u64, Vec<usize>)>, AllocError> {
     let Some(mut window) = widen(alloc, log, last)? else {
         return Ok(None);
     };
     narrow(alloc, log, &mut window)?;
     thin(alloc, log, &mut window)?;
-    Ok(Some(window))
+    let Window { first, places, .. } = window;
+    Ok(Some((first, places)))
 }
 
 /// The first one that is lost, of the windows to this moment that begin earlier and earlier, each twice as far back.
@@ -154,7 +171,7 @@ fn widen(
     Ok(None)
 }
 
-/// The places of the operations between two moments but the idle ones, if they aren't too many.
+/// The places of the operations between two moments but the needless ones, if they aren't too many.
 fn places_from(
     alloc: Global,
     log: &[Operation<Exchange>],
@@ -168,17 +185,17 @@ fn places_from(
             return Ok(None);
         }
     }
-    let busy = without_idle(alloc, log, first, last, places)?;
-    if MOST_OPERATIONS < busy.len() {
+    let needed = without_needless(alloc, log, first, last, places)?;
+    if MOST_OPERATIONS < needed.len() {
         Ok(None)
     } else {
-        Ok(Some(busy))
+        Ok(Some(needed))
     }
 }
 
-/// These places without those of idle operations, which need not stand in an order and leave nothing that the others
+/// These places without those of needless operations, which need not stand in an order and leave nothing that the others
 /// look at.
-fn without_idle(
+fn without_needless(
     alloc: Global,
     log: &[Operation<Exchange>],
     first: u64,
@@ -187,7 +204,7 @@ fn without_idle(
 ) -> Result<Vec<usize>, AllocError> {
     let mut left = places;
     for _ in 0..MOST_WITHIN {
-        let fewer = busy_of(alloc, log, first, last, left.as_slice())?;
+        let fewer = needed_of(alloc, log, first, last, left.as_slice())?;
         if fewer.len() == left.len() {
             return Ok(fewer);
         }
@@ -196,36 +213,36 @@ fn without_idle(
     Ok(left)
 }
 
-fn busy_of(
+fn needed_of(
     alloc: Global,
     log: &[Operation<Exchange>],
     first: u64,
     last: u64,
     places: &[usize],
 ) -> Result<Vec<usize>, AllocError> {
-    let mut busy = Vec::new(alloc);
+    let mut needed = Vec::new(alloc);
     let Some(little) = seen_at(alloc, log, first, last, places)? else {
-        return Ok(busy);
+        return Ok(needed);
     };
     for i in 0..places.len() {
-        push_busy(&mut busy, little.as_slice(), places[i], i)?;
+        push_needed(&mut needed, little.as_slice(), places[i], i)?;
     }
-    Ok(busy)
+    Ok(needed)
 }
 
-fn push_busy(
-    busy: &mut Vec<usize>,
+fn push_needed(
+    needed: &mut Vec<usize>,
     little: &[Operation<Exchange>],
     place: usize,
     i: usize,
 ) -> Result<(), AllocError> {
-    if !is_idle(little, op_at(little, i)) {
-        busy.push(place)?;
+    if !is_needless(little, op_at(little, i)) {
+        needed.push(place)?;
     }
     Ok(())
 }
 
-fn is_idle(little: &[Operation<Exchange>], op: Option<Operation<Exchange>>) -> bool {
+fn is_needless(little: &[Operation<Exchange>], op: Option<Operation<Exchange>>) -> bool {
     match op {
         Some(op) => (op.maybe || op.ends.is_none()) && is_unseen(little, op.what),
         None => true,

@@ -18,4 +18,5 @@ returns-in-Some c =
       little = c.in-Some.little.items;
       is = subst P c.as_slice.ensures.value is;
       lost = subst Q c.as_slice-in-Some.ensures.value (lost told);
+      end = c.requires;
     }) c.is_lost_anywhere.ensures
