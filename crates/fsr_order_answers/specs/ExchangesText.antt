@@ -1,11 +1,15 @@
 -- All that is printed of a log whose records repeat (this project's own).
-use Rattle.std.specs.Prelude.{ℕ, ◌++◌, List, codes, length, Option, None, Some, slice_get, unwrap_or}
+use Rattle.std.specs.Prelude.{ℕ, ◌++◌, List, codes, length, option_map, slice_get, unwrap_or}
 use Rattle.std.specs.Option.{option_and_then}
 use Rattle.exchanges_log.specs.declared.exchanges_log.ExchangesLog.{ExchangesLog}
 use Rattle.object_core.specs.declared.operation.Operation.{Operation}
-use Rattle.object_window.specs.declared.find.Window.{Window}
+use Rattle.object_sources.specs.declared.source.Unsourced.{Unsourced}
+use Rattle.object_sources.specs.declared.source.Unsourced.TheVariants.{Unwritten, Early}
 use Rattle.print_reasons.specs.Lost.{lost_text}
 use Rattle.print_reasons.specs.Together.{together_text}
+use Rattle.print_reasons.specs.Unsourced.{early_lines, unwritten_lines}
+use Rattle.fsr_order_answers.specs.declared.evidence.Evidence.{Evidence}
+use Rattle.fsr_order_answers.specs.declared.evidence.Evidence.TheVariants.{Source, Together, Nothing}
 use Rattle.fsr_order_answers.specs.Text.{count_text, end_text}
 
 abbrev pub ops_text : ExchangesLog → List ℕ
@@ -26,10 +30,21 @@ lawful_text log = codes "lawful\n" ++ counts_text log
 abbrev pub end_of : {W : Type 0} → List (Operation W) → ℕ → ℕ
 end_of {W} ops place = unwrap_or (option_and_then (λ (o : Operation W). o.ends) (slice_get ops place)) 0
 
--- what shows that a log is lost: the operations of a window, or else the line at whose end it is
-abbrev pub shown_text : List ℕ → ExchangesLog → ℕ → Option Window → List ℕ
-shown_text bytes log place None = lost_text bytes place (end_of log.ops.items place)
-shown_text bytes log place (Some window) = together_text bytes window.first window.last window.places.items
+-- and when it began
+abbrev pub begin_of : {W : Type 0} → List (Operation W) → ℕ → ℕ
+begin_of {W} ops place = unwrap_or (option_map (λ (o : Operation W). o.starts) (slice_get ops place)) 0
 
-abbrev pub unlawful_text : List ℕ → ExchangesLog → ℕ → Option Window → List ℕ
-unlawful_text bytes log place window = shown_text bytes log place window ++ counts_text log
+-- why the operation at a place can't have found its record
+abbrev pub source_text : List ℕ → ExchangesLog → ℕ → Unsourced → List ℕ
+source_text bytes log place Unwritten = unwritten_lines bytes place
+source_text bytes log place (Early write) =
+    early_lines bytes place write (end_of log.ops.items place) (begin_of log.ops.items write)
+
+-- what shows that a log is lost, or else the line at whose end it is
+abbrev pub shown_text : List ℕ → ExchangesLog → ℕ → Evidence → List ℕ
+shown_text bytes log place (Source why) = source_text bytes log place why
+shown_text bytes log place (Together window) = together_text bytes window.first window.last window.places.items
+shown_text bytes log place Nothing = lost_text bytes place (end_of log.ops.items place)
+
+abbrev pub unlawful_text : List ℕ → ExchangesLog → ℕ → Evidence → List ℕ
+unlawful_text bytes log place evidence = shown_text bytes log place evidence ++ counts_text log

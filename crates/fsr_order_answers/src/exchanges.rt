@@ -1,25 +1,24 @@
 //! The answer to a log whose records repeat.
-ghost use Rattle.std.specs.Prelude.{◌≡◌, IfOk, IfSome, Option};
-ghost use Rattle.fsr_order_answers.specs.Exchanges.{IsExchangesAnswer, IsSwept, printed};
+ghost use Rattle.std.specs.Prelude.{◌≡◌, IfOk};
+ghost use Rattle.fsr_order_answers.specs.Exchanges.{IsExchangesAnswer, IsShown, IsSwept, printed};
+ghost use Rattle.fsr_order_answers.specs.declared.evidence.Evidence.{Evidence};
 ghost use Rattle.object_sweep.specs.Rests.{RunForwards};
 ghost use Rattle.object_sweep.specs.declared.log_sweep.Verdict.{Verdict};
-ghost use Rattle.object_window.specs.Together.{IsLostTogether};
-ghost use Rattle.object_window.specs.declared.find.Window.{Window};
 ghost use Rattle.program_runs.specs.Answers.{GivesReply};
 
+use crate::evidence::{Evidence, OPENING, evidence_at};
 use crate::exchanges_text::{lawful_text, unlawful_text};
 use exchanges_log::laws::read_log_runs_forwards;
 use exchanges_log::{ExchangesLog, read_exchanges};
 use history_core::Items;
 use object_registers::Exchanging;
 use object_sweep::{SweepError, Verdict, sweep};
-use object_window::{Window, find_window};
 use program_runs::{Answer, Fault};
 use read_line::line_of;
 use std::alloc::{AllocError, Global};
 
-/// The answer of the command `order` to the bytes of a log whose records repeat: whether it has a lawful order, or few
-/// operations that have none, or else the end at which it is lost; or that there are more configurations than the
+/// The answer of the command `order` to the bytes of a log whose records repeat: whether it has a lawful order, or what
+/// shows that it has none, or else the end at which it is lost; or that there are more configurations than the
 /// budget.
 pub fn order_exchanges(alloc: Global, budget: usize, bytes: &[u8]) -> Result<Answer, Fault>
     ensures { GivesReply (IsExchangesAnswer budget bytes.now) result }
@@ -43,37 +42,38 @@ fn answer_log(
     log: &ExchangesLog,
 ) -> Result<Result<Answer, Fault>, AllocError>
     requires { RunForwards log.now.ops.items }
-    ensures { IfOk result (λ reply. (verdict : Verdict) × (window : Option Window) × IsSwept log.now budget verdict
-        × IfSome window (IsLostTogether log.now.ops.items) × (reply ≡ printed bytes.now log.now verdict window)) }
+    ensures { IfOk result (λ reply. (verdict : Verdict) × (evidence : Evidence) × IsSwept log.now budget verdict
+        × IsShown log.now verdict evidence × (reply ≡ printed bytes.now log.now verdict evidence)) }
 {
     let verdict = sweep_log(alloc, budget, log)?;
-    let window = window_of(alloc, log, verdict)?;
-    print(alloc, bytes, log, verdict, &window)
+    let evidence = evidence_of(alloc, log, verdict)?;
+    print(alloc, bytes, log, verdict, &evidence)
 }
 
-/// The sweep from the opening on, whose number is 0.
+/// The sweep from the opening on.
 fn sweep_log(alloc: Global, budget: usize, log: &ExchangesLog) -> Result<Verdict, AllocError>
     requires { RunForwards log.now.ops.items }
     ensures { IfOk result (IsSwept log.now budget) }
 {
-    match sweep(alloc, Exchanging { held: 0 }, log.ops.as_slice(), budget) {
+    match sweep(
+        alloc,
+        Exchanging { held: OPENING },
+        log.ops.as_slice(),
+        budget,
+    ) {
         Ok(verdict) => Ok(verdict),
         Err(SweepError::NoMemory) => Err(AllocError),
         Err(SweepError::Backwards { place: _ }) => unreachable!(),
     }
 }
 
-/// A window in which the log is lost, if it is and one is found.
-fn window_of(
-    alloc: Global,
-    log: &ExchangesLog,
-    verdict: Verdict,
-) -> Result<Option<Window>, AllocError>
-    ensures { IfOk result (λ found. IfSome found (IsLostTogether log.now.ops.items)) }
+/// What shows that the log is lost, if it is.
+fn evidence_of(alloc: Global, log: &ExchangesLog, verdict: Verdict) -> Result<Evidence, AllocError>
+    ensures { IfOk result (IsShown log.now verdict) }
 {
     match verdict {
-        Verdict::Unlawful { place } => find_window(alloc, log.ops.as_slice(), place),
-        _ => Ok(None),
+        Verdict::Unlawful { place } => evidence_at(alloc, log.ops.as_slice(), place),
+        _ => Ok(Evidence::Nothing),
     }
 }
 
@@ -82,9 +82,9 @@ fn print(
     bytes: &[u8],
     log: &ExchangesLog,
     verdict: Verdict,
-    window: &Option<Window>,
+    evidence: &Evidence,
 ) -> Result<Result<Answer, Fault>, AllocError>
-    ensures { IfOk result (λ reply. reply ≡ printed bytes.now log.now verdict window.now) }
+    ensures { IfOk result (λ reply. reply ≡ printed bytes.now log.now verdict evidence.now) }
 {
     match verdict {
         Verdict::Lawful => {
@@ -92,7 +92,7 @@ fn print(
             Ok(Ok(Answer { text, status: 0 }))
         }
         Verdict::Unlawful { place } => {
-            let text = Items::new(unlawful_text(alloc, bytes, log, place, window)?);
+            let text = Items::new(unlawful_text(alloc, bytes, log, place, evidence)?);
             Ok(Ok(Answer { text, status: 1 }))
         }
         Verdict::TooMany { place } => {

@@ -1,14 +1,16 @@
 //! All that is printed of a log whose records repeat.
 ghost use Rattle.std.specs.Prelude.{◌≡◌, ◌++◌, IfOk, OnOk};
-ghost use Rattle.fsr_order_answers.specs.ExchangesText.{counts_text, end_of, lawful_text, ops_text, shown_text};
-ghost use Rattle.fsr_order_answers.specs.ExchangesText.{unlawful_text};
+ghost use Rattle.fsr_order_answers.specs.ExchangesText.{begin_of, counts_text, end_of, lawful_text, ops_text};
+ghost use Rattle.fsr_order_answers.specs.ExchangesText.{shown_text, source_text, unlawful_text};
 ghost use Rattle.print_reasons.specs.Together.{together_text};
 
+use crate::evidence::Evidence;
 use crate::text::{push_count, push_end};
 use exchanges_log::ExchangesLog;
 use object_core::Operation;
+use object_sources::Unsourced;
 use object_window::Window;
-use print_reasons::{lost_text, together_text};
+use print_reasons::{early_lines, lost_text, together_text, unwritten_lines};
 use std::alloc::{AllocError, Global};
 
 pub(crate) fn lawful_text(alloc: Global, log: &ExchangesLog) -> Result<Vec<u8>, AllocError>
@@ -25,28 +27,53 @@ pub(crate) fn unlawful_text(
     bytes: &[u8],
     log: &ExchangesLog,
     place: usize,
-    window: &Option<Window>,
+    evidence: &Evidence,
 ) -> Result<Vec<u8>, AllocError>
-    ensures { IfOk result (λ text. text.items ≡ unlawful_text bytes.now log.now place window.now) }
+    ensures { IfOk result (λ text. text.items ≡ unlawful_text bytes.now log.now place evidence.now) }
 {
-    let mut text = shown_text(alloc, bytes, log, place, window)?;
+    let mut text = shown_text(alloc, bytes, log, place, evidence)?;
     push_counts(&mut text, log)?;
     Ok(text)
 }
 
-/// The operations of a window in which the log is lost, or else the line at whose end it is.
+/// What shows that the log is lost, or else the line at whose end it is.
 fn shown_text(
     alloc: Global,
     bytes: &[u8],
     log: &ExchangesLog,
     place: usize,
-    window: &Option<Window>,
+    evidence: &Evidence,
 ) -> Result<Vec<u8>, AllocError>
-    ensures { IfOk result (λ text. text.items ≡ shown_text bytes.now log.now place window.now) }
+    ensures { IfOk result (λ text. text.items ≡ shown_text bytes.now log.now place evidence.now) }
 {
-    match window {
-        Some(window) => window_text(alloc, bytes, window),
-        None => lost_text(alloc, bytes, place, end_of(log.ops.as_slice(), place)),
+    match evidence {
+        Evidence::Source(why) => source_text(alloc, bytes, log, place, *why),
+        Evidence::Together(window) => window_text(alloc, bytes, window),
+        Evidence::Nothing => lost_text(alloc, bytes, place, end_of(log.ops.as_slice(), place)),
+    }
+}
+
+/// Why the operation at a place can't have found its record.
+fn source_text(
+    alloc: Global,
+    bytes: &[u8],
+    log: &ExchangesLog,
+    place: usize,
+    why: Unsourced,
+) -> Result<Vec<u8>, AllocError>
+    ensures { IfOk result (λ text. text.items ≡ source_text bytes.now log.now place why) }
+{
+    let ops = log.ops.as_slice();
+    match why {
+        Unsourced::Unwritten => unwritten_lines(alloc, bytes, place),
+        Unsourced::Early { write } => early_lines(
+            alloc,
+            bytes,
+            place,
+            write,
+            end_of(ops, place),
+            begin_of(ops, write),
+        ),
     }
 }
 
@@ -64,6 +91,16 @@ fn end_of<W>(ops: &[Operation<W>], place: usize) -> u64
 {
     match ops.get(place) {
         Some(op) => op.ends.unwrap_or(0),
+        None => 0,
+    }
+}
+
+/// When it began.
+fn begin_of<W>(ops: &[Operation<W>], place: usize) -> u64
+    ensures { result ≡ begin_of ops.now place }
+{
+    match ops.get(place) {
+        Some(op) => op.starts,
         None => 0,
     }
 }

@@ -7,10 +7,22 @@ ghost use Rattle.history_core.specs.declared.thinned.LogAnswer.{LogAnswer};
 ghost use Rattle.history_thinning.specs.Tasks.{KeepsTasks};
 ghost use Rattle.lines_log.specs.Logs.{IsLinesLog};
 ghost use Rattle.lines_log.specs.declared.lines_log.LinesLog.{LinesLog};
+ghost use Rattle.object_core.specs.declared.operation.Operation.{Operation};
+ghost use Rattle.object_core.specs.Logs.{IsLinearizable};
+ghost use Rattle.object_registers.specs.Registers.{exchanging_after};
+ghost use Rattle.object_registers.specs.declared.exchanging.Exchange.{Exchange};
+ghost use Rattle.object_sources.specs.declared.source.Unsourced.{Unsourced};
+ghost use Rattle.object_sweep.specs.Rests.{RunForwards};
+ghost use Rattle.object_window.specs.declared.find.Window.{Window};
+ghost use Rattle.fsr_order_answers.specs.declared.evidence.Evidence.TheVariants.{Source, Together};
+ghost use Rattle.fsr_order_answers.specs.Evidence.{IsEvidence, opened};
+ghost use Rattle.fsr_order_answers.specs.ExchangesText.{end_of};
 ghost use Rattle.fsr_order_answers.specs.LinesAnswers.{status_of};
 ghost use Rattle.fsr_order_answers.specs.Text.{shown_text};
 
 use history_thinning::laws::tasks_in_order;
+use object_sources::laws::{early_is_unlawful, unwritten_is_unlawful};
+use object_window::laws::window_is_unlawful;
 
 /// Every order of a log in lines that keeps precedence, as a lawful one does, keeps each task's own order.
 pub fn lines_in_task_order()
@@ -29,3 +41,18 @@ pub fn strict_by_words()
         status_of true read found ≡ status_of false read found }
     ensures unasked { (read : LinesLog) (found : LogAnswer) → status_of false read found ≤ 1 }
 {}
+
+/// What shows that a log is lost shows it by itself: the log has no lawful order. A window ends with the operation at
+/// whose end it is lost.
+pub fn evidence_shows()
+    ensures source { (log : List (Operation Exchange)) (place : ℕ) (why : Unsourced) →
+        IsEvidence log place (Source why) → ¬ IsLinearizable exchanging_after opened log }
+    ensures together { (log : List (Operation Exchange)) (place : ℕ) (window : Window) → RunForwards log →
+        IsEvidence log place (Together window) → ¬ IsLinearizable exchanging_after opened log }
+    ensures ends { (log : List (Operation Exchange)) (place : ℕ) (window : Window) →
+        IsEvidence log place (Together window) → end_of log place ≡ window.last }
+{
+    unwritten_is_unlawful();
+    early_is_unlawful();
+    window_is_unlawful();
+}

@@ -3,6 +3,7 @@
 #![tactic(auto)]
 
 mod answer;
+mod evidence;
 mod exchanges;
 mod exchanges_text;
 mod input;
@@ -18,6 +19,7 @@ mod text;
 mod words;
 
 pub use answer::{order_lines, search_log, status_of};
+pub use evidence::Evidence;
 pub use exchanges::order_exchanges;
 pub use input::take_log;
 pub use log_answer::order_document;

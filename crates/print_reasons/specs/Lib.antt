@@ -4,3 +4,4 @@ pub mod Named
 pub mod Sentences
 pub mod Text
 pub mod Together
+pub mod Unsourced

@@ -82,7 +82,7 @@ fn unlawful_text(
     Ok(text)
 }
 
-fn reason_text(alloc: Global, reason: Reason) -> Result<Vec<u8>, AllocError>
+pub(crate) fn reason_text(alloc: Global, reason: Reason) -> Result<Vec<u8>, AllocError>
     ensures { IfOk result (λ text. text.items ≡ reason_text (in_lines reason)) }
 {
     let reason = in_lines(reason)?;

@@ -5,8 +5,8 @@ use Rattle.fsr_order_answers.proofs.exchanges.answer_log.Goals as goal
 pub returns : goal.returns
 returns c = IfOk-weaker c.print.result _ _ (λ reply told. (
   c.in_ok-verdict.verdict,
-  c.in_ok-window.window,
+  c.in_ok-evidence.evidence,
   c.in_ok-verdict.ensures,
-  c.in_ok-window.ensures,
+  c.in_ok-evidence.ensures,
   told,
 )) c.print.ensures

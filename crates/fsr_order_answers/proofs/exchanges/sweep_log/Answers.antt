@@ -4,7 +4,7 @@ use Rattle.object_core.specs.declared.operation.Operation.{Operation}
 use Rattle.object_registers.specs.Registers.{exchanging_after}
 use Rattle.object_registers.specs.declared.exchanging.Exchange.{Exchange}
 use Rattle.object_sweep.specs.Verdicts.{IsSweepVerdict}
-use Rattle.fsr_order_answers.specs.Exchanges.{opened}
+use Rattle.fsr_order_answers.specs.Evidence.{opened}
 use Rattle.fsr_order_answers.proofs.exchanges.sweep_log.Goals as goal
 
 pub returns-in-Ok : goal.returns-in-Ok
