@@ -281,7 +281,7 @@ JEPSEN = {
     ),
     "cas_of_texts": (
         jepsen('0 invoke cas [:a "b"]', '0 ok cas [:a "b"]'),
-        {"only": repeats("unlawful lost 2", '0 cas 0 1 ":a" "\\"b\\"" true')},
+        {"only": repeats("unlawful unwritten 2", '0 cas 0 1 ":a" "\\"b\\"" true')},
     ),
     "cas_of_half_a_letter": (jepsen("1 invoke write 3", '0 invoke cas ["\\ud800" 3]'), "line 2: a text with half a letter"),
     "repeats": (
@@ -295,7 +295,7 @@ JEPSEN = {
     ),
     "repeats_of_the_opening": (
         jepsen("0 invoke write 0", "1 invoke read nil", "1 ok read nil"),
-        {"only": repeats("unlawful lost 3", "0 write 0 null 0", '1 read 1 2 "nil"', opening="0")},
+        {"only": repeats("unlawful unwritten 3", "0 write 0 null 0", '1 read 1 2 "nil"', opening="0")},
         ("--opening", "0"),
     ),
 }

@@ -168,6 +168,40 @@ def lost_at(opening, ops, judge=is_lawful):
     return next(place for end, place in ends if not judge(opening, known_by(ops, end, place)))
 
 
+def found(op):
+    """The record that an operation found, if it says which."""
+    return {"gets": op.first, "swaps": op.first, "finds": op.second}.get(op.kind)
+
+
+def leaves(op):
+    """The record that an operation can leave."""
+    return {"sets": op.first, "swaps": op.second, "tries": op.second}.get(op.kind)
+
+
+def source_of(opening, ops, place):
+    """Of an operation that is sure to have found another record than the opening: whether no other one can leave that, and else the place
+    of the first that can, if it began later. Nothing of any other."""
+    op = ops[place]
+    if not sweeps.is_due(op) or found(op) in (None, opening):
+        return None
+    makers = [q for q, other in enumerate(ops) if q != place and leaves(other) == found(op)]
+    if not makers:
+        return ("unwritten",)
+    first = min(makers, key=lambda q: (ops[q].starts, q))
+    return ("early", first) if ops[first].starts > op.ends else None
+
+
+def source_text(log, place, why):
+    line, op = place + 2, log.lines[place].op
+    if why == ("unwritten",):
+        sentence = f"Line {line} found a record that is neither the opening nor written by another line."
+        return f"unlawful unwritten {line}\nline {line}: {log.lines[place].text}\n{sentence}\n"
+    other, source = why[1] + 2, log.lines[why[1]]
+    times = f"line {line} ended at {op.ends}, line {other} began at {source.op.starts}"
+    shown = f"line {line}: {log.lines[place].text}\nline {other}: {source.text}\n"
+    return f"unlawful early {line} {other}\n{shown}Line {line} found a record that is first written later: {times}.\n"
+
+
 def counts(log):
     ops = [it.op for it in log.lines]
     unfinished, uncertain = sum(op.ends is None for op in ops), sum(op.maybe and op.ends is not None for op in ops)
@@ -182,9 +216,13 @@ def answer(data):
         log = read(data)
     except Fault as fault:
         return "", f"fsr: {fault}\n", 3
-    place = lost_at(log.opening, [it.op for it in log.lines])
+    ops = [it.op for it in log.lines]
+    place = lost_at(log.opening, ops)
     if place is None:
         return "lawful\n" + counts(log), "", 0
+    why = source_of(log.opening, ops, place)
+    if why:
+        return source_text(log, place, why) + counts(log), "", 1
     line, lost = place + 2, log.lines[place]
     told = f"Up to the end of line {line}, at {lost.op.ends}, no order of the operations is lawful."
     return f"unlawful lost {line}\nline {line}: {lost.text}\n{told}\n" + counts(log), "", 1

@@ -15,11 +15,6 @@ def asked(op):
     return {"sets": None, "finds": op.second}.get(op.kind, op.first)
 
 
-def leaves(op):
-    """The record that an operation can leave."""
-    return {"sets": op.first, "swaps": op.second, "tries": op.second}.get(op.kind)
-
-
 def looks_at(op, value):
     return op.kind == "misses" or (op.kind != "sets" and asked(op) == value)
 
@@ -30,9 +25,9 @@ def seen(op, first, last):
 
 
 def need_not_be(op, little, first, last):
-    if (op.ends is not None and op.ends < first) or op.starts > last or leaves(op) is None:
+    if (op.ends is not None and op.ends < first) or op.starts > last or exchanges.leaves(op) is None:
         return True
-    return not any(looks_at(other, leaves(op)) for other in little)
+    return not any(looks_at(other, exchanges.leaves(op)) for other in little)
 
 
 def is_lost(ops, places, first, last):
@@ -57,11 +52,14 @@ def text_of(log, places, first, last):
 
 
 def is_right(data, text):
-    """Whether this text tells right of a log that is lost: the latest window to the end at which it is, none of whose operations can be
-    left out; or that end, where none of so many operations is one."""
+    """Whether this text tells right of a log that is lost: why the operation at whose end it is can't have found its record; else the latest
+    window to that end, none of whose operations can be left out; or that end, where none of so many operations is one."""
     log = exchanges.read(data)
     ops = [it.op for it in log.lines]
-    last = ops[exchanges.lost_at(log.opening, ops)].ends
+    place = exchanges.lost_at(log.opening, ops)
+    if exchanges.source_of(log.opening, ops, place):
+        return text == exchanges.answer(data)[0]
+    last = ops[place].ends
     told = SENTENCE.search(text)
     if not told:
         began = within(ops, 0, last)
