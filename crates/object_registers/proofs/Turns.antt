@@ -192,6 +192,9 @@ refused_two opening log p value o lawful at due is many =
     two log p value o at is lawful.0 opening h.precedence h.steps (λ q a e. once (is_due a) _ (h.listing q a e))
     (stands (is_due o) _ due (h.listing p o at)) many
 
+equal_held : (m n : ℕ) → nat_eq m n ≡ true → m ≡ n
+equal_held m n e = grind (arith, nat_tests)
+
 -- what leaves a record where another one was
 made : (s t : Exchanging) (value : ℕ) (what : Exchange) → exchanging_after s what ≡ Some t → s.held ≢ value → t.held ≡ value →
     Makes value what
@@ -201,11 +204,14 @@ made s t value (Gets seen) e ne is = by_test (nat_eq s.held seen) e
     by_test : (b : Bool) → cond b (Some s) None ≡ Some t → ⊥
     by_test true f = ne (ap (λ (z : Exchanging). z.held) (same_Some s t f) ∙ is)
     by_test false f = cc
-made s t value (Swaps from to) e ne is = by_test (nat_eq s.held from) e
+made s t value (Swaps from to) e ne is = by_test (nat_eq s.held from) refl e
   where
-    by_test : (b : Bool) → cond b (Some (record { held = to })) None ≡ Some t → to ≡ value
-    by_test true f = ap (λ (z : Exchanging). z.held) (same_Some (record { held = to }) t f) ∙ is
-    by_test false f = cc
+    by_test : (b : Bool) → nat_eq s.held from ≡ b → cond b (Some (record { held = to })) None ≡ Some t → (to ≡ value) × (from ≢ value)
+    by_test true g f = (
+      ap (λ (z : Exchanging). z.held) (same_Some (record { held = to }) t f) ∙ is,
+      λ h. ne (equal_held s.held from g ∙ h),
+    )
+    by_test false g f = cc
 made s t value (Misses from) e ne is = by_test (nat_eq s.held from) e
   where
     by_test : (b : Bool) → cond b None (Some s) ≡ Some t → ⊥
@@ -216,11 +222,14 @@ made s t value (Finds from found) e ne is = by_test (nat_eq s.held found && not 
     by_test : (b : Bool) → cond b (Some s) None ≡ Some t → ⊥
     by_test true f = ne (ap (λ (z : Exchanging). z.held) (same_Some s t f) ∙ is)
     by_test false f = cc
-made s t value (Tries from to) e ne is = by_test (nat_eq s.held from) e
+made s t value (Tries from to) e ne is = by_test (nat_eq s.held from) refl e
   where
-    by_test : (b : Bool) → Some (cond b (record { held = to }) s) ≡ Some t → to ≡ value
-    by_test true f = ap (λ (z : Exchanging). z.held) (same_Some (record { held = to }) t f) ∙ is
-    by_test false f = absurd (ne (ap (λ (z : Exchanging). z.held) (same_Some s t f) ∙ is))
+    by_test : (b : Bool) → nat_eq s.held from ≡ b → Some (cond b (record { held = to }) s) ≡ Some t → (to ≡ value) × (from ≢ value)
+    by_test true g f = (
+      ap (λ (z : Exchanging). z.held) (same_Some (record { held = to }) t f) ∙ is,
+      λ h. ne (equal_held s.held from g ∙ h),
+    )
+    by_test false g f = absurd (ne (ap (λ (z : Exchanging). z.held) (same_Some s t f) ∙ is))
 
 -- whoever found a record finds it held
 finds : (s t : Exchanging) (value : ℕ) (what : Exchange) → found_by what ≡ Some value → exchanging_after s what ≡ Some t →
@@ -247,7 +256,7 @@ finds s t value (Tries from to) is e = cc
 pub found_made : (opening : Exchanging) (log : List (Operation Exchange)) (p value : ℕ) (o : Operation Exchange) →
     IsLinearizable exchanging_after opening log → slice_get log p ≡ Some o → is_due o ≡ true → found_by o.what ≡ Some value →
     value ≢ opening.held →
-    (q : ℕ) × (a : Operation Exchange) × (q ≢ p) × (slice_get log q ≡ Some a) × (¬ Precedes o a) × Makes value a.what
+    (q : ℕ) × (a : Operation Exchange) × (slice_get log q ≡ Some a) × (¬ Precedes o a) × Makes value a.what
 found_made opening log p value o lawful at due is other =
     let h = lawful.1 in
     let test : Exchanging → Bool = λ s. nat_eq s.held value in
@@ -255,7 +264,7 @@ found_made opening log p value o lawful at due is other =
     let stood = stands (is_due o) _ due (h.listing p o at) in
     let r = turned exchanging_after log test p o at only lawful.0 opening h.precedence h.steps stood not_yet in
     let other_before = unequal r.old.held value r.before in
-    (r.place, r.by, apart r, r.at, r.free, made r.old r.new value r.by.what r.step other_before (equal r.new.held value r.behind))
+    (r.place, r.by, r.at, r.free, made r.old r.new value r.by.what r.step other_before (equal r.new.held value r.behind))
   where
     test_fails : (m n : ℕ) → m ≢ n → nat_eq m n ≡ false
     test_fails m n ne = grind (arith, nat_tests)
@@ -268,11 +277,3 @@ found_made opening log p value o lawful at due is other =
 
     only : (s t : Exchanging) → exchanging_after s o.what ≡ Some t → nat_eq s.held value ≡ true
     only s t e = finds s t value o.what is e
-
-    apart : (r : Turn exchanging_after log (λ s. nat_eq s.held value) lawful.0 o) → r.place ≢ p
-    apart r e =
-        let f : slice_get log p ≡ Some r.by = subst (λ z. slice_get log z ≡ Some r.by) e r.at in
-        let same : r.by ≡ o = same_Some r.by o (sym f ∙ at) in
-        let P : Operation Exchange → Type 0 = λ z. exchanging_after r.old z.what ≡ Some r.new in
-        let t : nat_eq r.old.held value ≡ true = only r.old r.new (subst P same r.step) in
-        let b = r.before in cc

@@ -1,5 +1,5 @@
 -- The steps of two registers: what each holds after an operation, where it may give its answer.
-use Rattle.std.specs.Prelude.{◌≡◌, ℕ, ◌-◌, ◌&&◌, not, nat_eq, cond, List, slice_get, Option, None, Some}
+use Rattle.std.specs.Prelude.{◌≡◌, ◌≢◌, ℕ, ◌-◌, ◌&&◌, not, nat_eq, cond, List, slice_get, Option, None, Some}
 use Rattle.object_core.specs.declared.operation.Operation.{Operation}
 use Rattle.object_core.specs.Logs.{Precedes}
 use Rattle.object_registers.specs.declared.exchanging.Exchange.{Exchange}
@@ -33,10 +33,10 @@ IsWriteFor o log q =
 abbrev pub Makes : ℕ → Exchange → Type 0
 Makes value (Sets to) = to ≡ value
 Makes value (Gets seen) = ⊥
-Makes value (Swaps from to) = to ≡ value
+Makes value (Swaps from to) = (to ≡ value) × (from ≢ value)
 Makes value (Misses from) = ⊥
 Makes value (Finds from found) = ⊥
-Makes value (Tries from to) = to ≡ value
+Makes value (Tries from to) = (to ≡ value) × (from ≢ value)
 
 -- the record that an operation found, if it says which
 abbrev pub found_by : Exchange → Option ℕ

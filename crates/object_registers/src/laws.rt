@@ -16,12 +16,11 @@ pub fn refused_behind_writes()
         (q r : ℕ) × (q ≢ r) × IsWriteFor o log q × IsWriteFor o log r }
 {}
 
-/// An operation that is sure to have found another record than the opening: another operation that can leave that
-/// didn't begin after its end.
+/// An operation is sure to have found another record than the opening: an operation that can leave that record didn't
+/// begin after its end.
 pub fn found_is_made()
     ensures { (opening : Exchanging) (log : List (Operation Exchange)) (p value : ℕ) (o : Operation Exchange) →
         IsLinearizable exchanging_after opening log → slice_get log p ≡ Some o → is_due o ≡ true →
         found_by o.what ≡ Some value → value ≢ opening.held →
-        (q : ℕ) × (a : Operation Exchange) × (q ≢ p) × (slice_get log q ≡ Some a) × (¬ Precedes o a)
-        × Makes value a.what }
+        (q : ℕ) × (a : Operation Exchange) × (slice_get log q ≡ Some a) × (¬ Precedes o a) × Makes value a.what }
 {}

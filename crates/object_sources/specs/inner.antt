@@ -1,1 +1,1 @@
-pub mod Makers
+pub mod Firsts

@@ -2,8 +2,8 @@
 
 ghost use Rattle.std.specs.Prelude.{◌≡◌, ◌↔◌, ◌<◌, ◌+◌, ℕ, IsTrue, IsSomeAnd, Some, length, slice_get};
 ghost use Rattle.object_registers.specs.Registers.{found_by, Makes};
-ghost use Rattle.object_sources.specs.Sources.{HasFound, MayLeave, IsUnsourced};
-ghost use Rattle.object_sources.specs.inner.Makers.{IsFirstBelow, IsUnsourcedOf, is_sooner, starts_at};
+ghost use Rattle.object_sources.specs.Sources.{HasFoundAnother, IsUnsourced, MayLeave};
+ghost use Rattle.object_sources.specs.inner.Firsts.{IsFirstBelow, IsUnsourcedOf, is_sooner, starts_at};
 
 use object_core::Operation;
 use object_registers::Exchange;
@@ -11,14 +11,15 @@ use object_registers::Exchange;
 /// Why an operation can't have found its record.
 #[derive(Clone, Copy, Debug, PartialEq, Eq)]
 pub enum Unsourced {
-    /// No other operation leaves it.
+    /// No operation can leave it.
     Unwritten,
-    /// Each other one that leaves it began after the operation had ended. This is the first of them.
-    Early { write: usize },
+    /// Each one that can leave it began after the operation had ended. That at `source` is the first of them, and of
+    /// several that began at once that at the least place.
+    Early { source: usize },
 }
 
-/// Why the operation at a place can't have found its record in a register that held `opening` at first. None if an
-/// operation may have left it in time, if it is the opening, or if it isn't sure that one was found.
+/// Why the operation at a place can't have found its record in a register that held `opening` at first. None if one that
+/// can leave it began in time, if it is the opening, or if it isn't sure that one was found.
 pub fn unsourced_at(opening: u64, log: &[Operation<Exchange>], place: usize) -> Option<Unsourced>
     ensures { IsUnsourced opening log.now place result }
 {
@@ -26,7 +27,7 @@ pub fn unsourced_at(opening: u64, log: &[Operation<Exchange>], place: usize) -> 
         return None;
     };
     match found_at(opening, op) {
-        Some(value) => why_unsourced(log, place, op, value),
+        Some(value) => why_unsourced(log, op, value),
         None => None,
     }
 }
@@ -42,7 +43,7 @@ fn op_at(log: &[Operation<Exchange>], place: usize) -> Option<Operation<Exchange
 
 /// The record that an operation is sure to have found, if it isn't the opening.
 fn found_at(opening: u64, op: Operation<Exchange>) -> Option<u64>
-    ensures { (value : ℕ) → (result ≡ Some value) ↔ HasFound opening value op }
+    ensures { (value : ℕ) → (result ≡ Some value) ↔ HasFoundAnother opening value op }
 {
     if op.ends.is_none() || op.maybe {
         return None;
@@ -69,16 +70,15 @@ fn found_by(what: Exchange) -> Option<u64>
 /// Why this operation can't have found this record.
 fn why_unsourced(
     log: &[Operation<Exchange>],
-    place: usize,
     op: Operation<Exchange>,
     value: u64,
 ) -> Option<Unsourced>
-    ensures { IsUnsourcedOf log.now place op value result }
+    ensures { (place : ℕ) → IsUnsourcedOf log.now place op value result }
 {
-    match first_source(log, place, value) {
+    match first_source(log, value) {
         None => Some(Unsourced::Unwritten),
-        Some(write) => if ended_before(op.ends, starts_at(log, write)) {
-            Some(Unsourced::Early { write })
+        Some(source) => if ended_before(op.ends, starts_at(log, source)) {
+            Some(Unsourced::Early { source })
         } else {
             None
         },
@@ -94,13 +94,13 @@ fn ended_before(ends: Option<u64>, moment: u64) -> bool
     }
 }
 
-/// The first of the other operations that can leave a record.
-fn first_source(log: &[Operation<Exchange>], place: usize, value: u64) -> Option<usize>
-    ensures { IsFirstBelow log.now place value (length log.now) result }
+/// The first source of a record.
+fn first_source(log: &[Operation<Exchange>], value: u64) -> Option<usize>
+    ensures { IsFirstBelow log.now value (length log.now) result }
 {
     let mut first = None;
     for at in 0..log.len() {
-        first = first_of(log, place, value, first, at);
+        first = first_of(log, value, first, at);
     }
     first
 }
@@ -108,14 +108,13 @@ fn first_source(log: &[Operation<Exchange>], place: usize, value: u64) -> Option
 /// The first of those so far and the operation at one more place.
 fn first_of(
     log: &[Operation<Exchange>],
-    place: usize,
     value: u64,
     first: Option<usize>,
     at: usize,
 ) -> Option<usize>
-    ensures { IsFirstBelow log.now place value at first → IsFirstBelow log.now place value (at + 1) result }
+    ensures { IsFirstBelow log.now value at first → IsFirstBelow log.now value (at + 1) result }
 {
-    if may_leave(log, place, value, at) && is_sooner(log, at, first) {
+    if may_leave(log, value, at) && is_sooner(log, at, first) {
         Some(at)
     } else {
         first
@@ -140,23 +139,24 @@ fn starts_at(log: &[Operation<Exchange>], place: usize) -> u64
     }
 }
 
-/// Whether the operation at a place, another one than that at `place`, can leave a record.
-fn may_leave(log: &[Operation<Exchange>], place: usize, value: u64, at: usize) -> bool
-    ensures { IsTrue result ↔ MayLeave log.now place value at }
+/// Whether the operation at a place can leave a record.
+fn may_leave(log: &[Operation<Exchange>], value: u64, at: usize) -> bool
+    ensures { IsTrue result ↔ MayLeave log.now value at }
 {
     match log.get(at) {
-        Some(op) => at != place && makes(value, op.what),
+        Some(op) => makes(value, op.what),
         None => false,
     }
 }
 
+/// Whether an operation can leave a record where another one was.
 fn makes(value: u64, what: Exchange) -> bool
     ensures { IsTrue result ↔ Makes value what }
 {
     match what {
         Exchange::Sets(to) => to == value,
-        Exchange::Swaps(_, to) => to == value,
-        Exchange::Tries(_, to) => to == value,
+        Exchange::Swaps(from, to) => to == value && from != value,
+        Exchange::Tries(from, to) => to == value && from != value,
         Exchange::Gets(_) => false,
         Exchange::Misses(_) => false,
         Exchange::Finds(_, _) => false,

@@ -1,7 +1,7 @@
 -- Where two registers go on alike: one from which something is left out, and two whose records nothing asks for.
 use Rattle.std.proofs.Common.{◌≡◌, ◌≢◌, ℕ, ◌&&◌, not, Bool, true, false, cond, nat_eq, List, [], ◌∷◌, slice_get}
 use Rattle.std.proofs.Common.{None, Some, refl, sym, ◌∙◌, ap, subst, arith, ◌⊎◌, inl, inr}
-use Rattle.std.proofs.lemmas.Bool.{and_parts}
+use Rattle.std.proofs.lemmas.Bool.{and_parts, cases_eq}
 use Rattle.std.proofs.lemmas.Bool.Decides.{nat_tests}
 use Rattle.std.proofs.lemmas.Option.{same_Some}
 use Rattle.object_core.specs.declared.operation.Operation.{Operation}
@@ -28,20 +28,27 @@ has_not : {S : Type 0} (b : Bool) (s t : S) → cond b None (Some s) ≡ Some t 
 has_not false s t e = (refl, same_Some s t e)
 has_not true s t e = cc
 
+-- what a compare-and-set puts in the place of what it found is the same record, or another one
+puts : (x : Exchanging) (from to : ℕ) (t : Exchanging) → nat_eq x.held from ≡ true → holding to ≡ t →
+    (t ≡ x) ⊎ ((to ≡ t.held) × (from ≢ t.held))
+puts x from to t there is = elim (cases_eq from to) [
+  | inl e ↦ inl (sym is ∙ (ap holding (sym e) ∙ ap holding (sym (same_if x.held from there))))
+  | inr ne ↦ let p : to ≡ t.held = ap (λ (z : Exchanging). z.held) is in inr (p, λ z. ne (z ∙ sym p))
+]
+
 -- what an operation leaves is what was there, or what it makes
 pub stays_or_makes : (x : Exchanging) (what : Exchange) (t : Exchanging) → exchanging_after x what ≡ Some t →
     (t ≡ x) ⊎ Makes t.held what
 stays_or_makes x (Sets value) t e = inr (ap (λ (z : Exchanging). z.held) (same_Some (holding value) t e))
 stays_or_makes x (Gets value) t e = inl (sym (has_held (nat_eq x.held value) x t e).1)
-stays_or_makes x (Swaps from to) t e =
-    inr (ap (λ (z : Exchanging). z.held) (has_held (nat_eq x.held from) (holding to) t e).1)
+stays_or_makes x (Swaps from to) t e = let h = has_held (nat_eq x.held from) (holding to) t e in puts x from to t h.0 h.1
 stays_or_makes x (Misses from) t e = inl (sym (has_not (nat_eq x.held from) x t e).1)
 stays_or_makes x (Finds from found) t e = inl (sym (has_held (nat_eq x.held found && not (nat_eq from found)) x t e).1)
-stays_or_makes x (Tries from to) t e = by_test (nat_eq x.held from) e
+stays_or_makes x (Tries from to) t e = by_test (nat_eq x.held from) refl e
   where
-    by_test : (b : Bool) → Some (cond b (holding to) x) ≡ Some t → (t ≡ x) ⊎ Makes t.held (Tries from to)
-    by_test true f = inr (ap (λ (z : Exchanging). z.held) (same_Some (holding to) t f))
-    by_test false f = inl (sym (same_Some x t f))
+    by_test : (b : Bool) → nat_eq x.held from ≡ b → Some (cond b (holding to) x) ≡ Some t → (t ≡ x) ⊎ Makes t.held (Tries from to)
+    by_test true g f = puts x from to t g (same_Some (holding to) t f)
+    by_test false g f = inl (sym (same_Some x t f))
 
 -- the other register goes on like this one, where something looks at what this one holds
 module _ (little : List (Operation Exchange)) where

@@ -206,14 +206,14 @@ fn looks_at(value: u64, what: Exchange) -> bool
     }
 }
 
-/// What an operation can leave.
+/// What an operation can leave where another record was.
 fn made(what: Exchange) -> Option<u64>
     ensures { (value : ℕ) → (result ≡ Some value) ↔ Makes value what }
 {
     match what {
         Exchange::Sets(to) => Some(to),
-        Exchange::Swaps(_, to) => Some(to),
-        Exchange::Tries(_, to) => Some(to),
+        Exchange::Swaps(from, to) => if from == to { None } else { Some(to) },
+        Exchange::Tries(from, to) => if from == to { None } else { Some(to) },
         _ => None,
     }
 }

@@ -7,13 +7,13 @@ use Rattle.std.proofs.Common.{sym, ◌∙◌}
 
 pub returns-then-is_sooner : goal.returns-then-is_sooner
 returns-then-is_sooner c h =
-    sooner_there c.args.log.now c.args.place c.args.value c.args.at c.args.first (c.may_leave.ensures.0 c.if-may_leave.true)
+    sooner_there c.args.log.now c.args.value c.args.at c.args.first (c.may_leave.ensures.0 c.if-may_leave.true)
     (sym c.is_sooner.ensures ∙ c.if-is_sooner.true) h
 
 pub returns-else-may_leave : goal.returns-else-may_leave
 returns-else-may_leave c h = elim c.else-may_leave.branch [
   | else-may_leave-via-then-may_leave+else-is_sooner w ↦
-      no_sooner c.args.log.now c.args.place c.args.value c.args.at c.args.first (sym w.is_sooner.ensures ∙ w.if-is_sooner.false) h
+      no_sooner c.args.log.now c.args.value c.args.at c.args.first (sym w.is_sooner.ensures ∙ w.if-is_sooner.false) h
   | else-may_leave-via-else-may_leave w ↦
-      none_there c.args.log.now c.args.place c.args.value c.args.at c.args.first (iff_false c.may_leave.ensures w.if-may_leave.false) h
+      none_there c.args.log.now c.args.value c.args.at c.args.first (iff_false c.may_leave.ensures w.if-may_leave.false) h
 ]
