@@ -9,7 +9,7 @@ use Rattle.print_reasons.specs.Lost.{lost_text}
 use Rattle.print_reasons.specs.Together.{together_text}
 use Rattle.print_reasons.specs.Unsourced.{early_lines, unwritten_lines}
 use Rattle.fsr_order_answers.specs.declared.evidence.Evidence.{Evidence}
-use Rattle.fsr_order_answers.specs.declared.evidence.Evidence.TheVariants.{Source, Together, Nothing}
+use Rattle.fsr_order_answers.specs.declared.evidence.Evidence.TheVariants.{NoSource, Together, Nothing}
 use Rattle.fsr_order_answers.specs.Text.{count_text, end_text}
 
 abbrev pub ops_text : ExchangesLog → List ℕ
@@ -35,14 +35,14 @@ abbrev pub begin_of : {W : Type 0} → List (Operation W) → ℕ → ℕ
 begin_of {W} ops place = unwrap_or (option_map (λ (o : Operation W). o.starts) (slice_get ops place)) 0
 
 -- why the operation at a place can't have found its record
-abbrev pub source_text : List ℕ → ExchangesLog → ℕ → Unsourced → List ℕ
-source_text bytes log place Unwritten = unwritten_lines bytes place
-source_text bytes log place (Early write) =
-    early_lines bytes place write (end_of log.ops.items place) (begin_of log.ops.items write)
+abbrev pub unsourced_text : List ℕ → ExchangesLog → ℕ → Unsourced → List ℕ
+unsourced_text bytes log place Unwritten = unwritten_lines bytes place
+unsourced_text bytes log place (Early source) =
+    early_lines bytes place source (end_of log.ops.items place) (begin_of log.ops.items source)
 
 -- what shows that a log is lost, or else the line at whose end it is
 abbrev pub shown_text : List ℕ → ExchangesLog → ℕ → Evidence → List ℕ
-shown_text bytes log place (Source why) = source_text bytes log place why
+shown_text bytes log place (NoSource why) = unsourced_text bytes log place why
 shown_text bytes log place (Together window) = together_text bytes window.first window.last window.places.items
 shown_text bytes log place Nothing = lost_text bytes place (end_of log.ops.items place)
 

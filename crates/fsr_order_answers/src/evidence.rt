@@ -14,8 +14,8 @@ pub(crate) const OPENING: u64 = 0;
 /// What shows that a log is lost.
 #[derive(Debug, Drop)]
 pub enum Evidence {
-    /// The operation at whose end it is lost can't have found its record.
-    Source(Unsourced),
+    /// Why the operation at whose end it is lost can't have found its record.
+    NoSource(Unsourced),
     /// No order of few operations is lawful.
     Together(Window),
     /// A short search finds nothing.
@@ -31,7 +31,7 @@ pub(crate) fn evidence_at(
     ensures { IfOk result (IsEvidence log.now place) }
 {
     if let Some(why) = unsourced_at(OPENING, log, place) {
-        return Ok(Evidence::Source(why));
+        return Ok(Evidence::NoSource(why));
     }
     match find_window(alloc, log, place)? {
         Some(window) => Ok(Evidence::Together(window)),

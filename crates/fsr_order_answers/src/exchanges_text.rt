@@ -1,7 +1,7 @@
 //! All that is printed of a log whose records repeat.
 ghost use Rattle.std.specs.Prelude.{◌≡◌, ◌++◌, IfOk, OnOk};
 ghost use Rattle.fsr_order_answers.specs.ExchangesText.{begin_of, counts_text, end_of, lawful_text, ops_text};
-ghost use Rattle.fsr_order_answers.specs.ExchangesText.{shown_text, source_text, unlawful_text};
+ghost use Rattle.fsr_order_answers.specs.ExchangesText.{shown_text, unlawful_text, unsourced_text};
 ghost use Rattle.print_reasons.specs.Together.{together_text};
 
 use crate::evidence::Evidence;
@@ -47,32 +47,32 @@ fn shown_text(
     ensures { IfOk result (λ text. text.items ≡ shown_text bytes.now log.now place evidence.now) }
 {
     match evidence {
-        Evidence::Source(why) => source_text(alloc, bytes, log, place, *why),
+        Evidence::NoSource(why) => unsourced_text(alloc, bytes, log, place, *why),
         Evidence::Together(window) => window_text(alloc, bytes, window),
         Evidence::Nothing => lost_text(alloc, bytes, place, end_of(log.ops.as_slice(), place)),
     }
 }
 
 /// Why the operation at a place can't have found its record.
-fn source_text(
+fn unsourced_text(
     alloc: Global,
     bytes: &[u8],
     log: &ExchangesLog,
     place: usize,
     why: Unsourced,
 ) -> Result<Vec<u8>, AllocError>
-    ensures { IfOk result (λ text. text.items ≡ source_text bytes.now log.now place why) }
+    ensures { IfOk result (λ text. text.items ≡ unsourced_text bytes.now log.now place why) }
 {
     let ops = log.ops.as_slice();
     match why {
         Unsourced::Unwritten => unwritten_lines(alloc, bytes, place),
-        Unsourced::Early { write } => early_lines(
+        Unsourced::Early { source } => early_lines(
             alloc,
             bytes,
             place,
-            write,
+            source,
             end_of(ops, place),
-            begin_of(ops, write),
+            begin_of(ops, source),
         ),
     }
 }

@@ -14,7 +14,7 @@ ghost use Rattle.object_registers.specs.declared.exchanging.Exchange.{Exchange};
 ghost use Rattle.object_sources.specs.declared.source.Unsourced.{Unsourced};
 ghost use Rattle.object_sweep.specs.Rests.{RunForwards};
 ghost use Rattle.object_window.specs.declared.find.Window.{Window};
-ghost use Rattle.fsr_order_answers.specs.declared.evidence.Evidence.TheVariants.{Source, Together};
+ghost use Rattle.fsr_order_answers.specs.declared.evidence.Evidence.TheVariants.{NoSource, Together};
 ghost use Rattle.fsr_order_answers.specs.Evidence.{IsEvidence, opened};
 ghost use Rattle.fsr_order_answers.specs.ExchangesText.{end_of};
 ghost use Rattle.fsr_order_answers.specs.LinesAnswers.{status_of};
@@ -42,11 +42,11 @@ pub fn strict_by_words()
     ensures unasked { (read : LinesLog) (found : LogAnswer) → status_of false read found ≤ 1 }
 {}
 
-/// What shows that a log is lost shows it by itself: the log has no lawful order. A window ends with the operation at
-/// whose end it is lost.
+/// What is shown of a lost log shows by itself that the log has no lawful order. A window ends at the moment at which the
+/// operation ends at whose end the log is lost.
 pub fn evidence_shows()
     ensures source { (log : List (Operation Exchange)) (place : ℕ) (why : Unsourced) →
-        IsEvidence log place (Source why) → ¬ IsLinearizable exchanging_after opened log }
+        IsEvidence log place (NoSource why) → ¬ IsLinearizable exchanging_after opened log }
     ensures together { (log : List (Operation Exchange)) (place : ℕ) (window : Window) → RunForwards log →
         IsEvidence log place (Together window) → ¬ IsLinearizable exchanging_after opened log }
     ensures ends { (log : List (Operation Exchange)) (place : ℕ) (window : Window) →
