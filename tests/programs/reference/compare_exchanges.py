@@ -60,7 +60,7 @@ def ending_of(wanted):
     if wanted[2] == 3:
         return re.sub(r"\d+", "N", wanted[1].strip().removeprefix("fsr: "))
     told = wanted[0] if isinstance(wanted[0], str) else f"unlawful {wanted[0][0]}"
-    return re.sub(r" \d+$", "", told.split("\n")[0])
+    return re.sub(r"( \d+)+$", "", told.split("\n")[0])
 
 
 def main():

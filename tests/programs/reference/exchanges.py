@@ -168,38 +168,44 @@ def lost_at(opening, ops, judge=is_lawful):
     return next(place for end, place in ends if not judge(opening, known_by(ops, end, place)))
 
 
-def found(op):
-    """The record that an operation found, if it says which."""
-    return {"gets": op.first, "swaps": op.first, "finds": op.second}.get(op.kind)
+def may_find(op):
+    """Whether an operation is sure to have found a record, and says which."""
+    return sweeps.is_due(op) and op.kind in ("gets", "swaps", "finds")
 
 
 def leaves(op):
-    """The record that an operation can leave."""
-    return {"sets": op.first, "swaps": op.second, "tries": op.second}.get(op.kind)
+    """The record that an operation can leave where another one was."""
+    made = {"sets": op.first, "swaps": op.second, "tries": op.second}.get(op.kind)
+    return None if op.kind in ("swaps", "tries") and op.first == op.second else made
 
 
-def source_of(opening, ops, place):
-    """Of an operation that is sure to have found another record than the opening: whether no other one can leave that, and else the place
-    of the first that can, if it began later. Nothing of any other."""
-    op = ops[place]
-    if not sweeps.is_due(op) or found(op) in (None, opening):
+def alone(opening, op, others):
+    """Whether an operation has a lawful order beside others of which each may have written what it can leave."""
+    writes = [it._replace(kind="sets", first=leaves(it), second=None, maybe=True) for it in others if leaves(it) is not None]
+    return is_lawful(opening, [op, *writes])
+
+
+def unsourced(opening, ops, place):
+    """Why an operation can't have found its record: `unwritten`, if no other one left it whenever that began; else `early`, and the first place
+    of those that have to begin sooner. Nothing if it may have found it."""
+    op, others = ops[place], [*ops[:place], *ops[place + 1:]]
+    if not may_find(op) or alone(opening, op, others):
         return None
-    makers = [q for q, other in enumerate(ops) if q != place and leaves(other) == found(op)]
-    if not makers:
+    if not alone(opening, op, [it._replace(starts=0) for it in others]):
         return ("unwritten",)
-    first = min(makers, key=lambda q: (ops[q].starts, q))
-    return ("early", first) if ops[first].starts > op.ends else None
+    sooner = [q for q in range(len(ops)) if q != place and alone(opening, op, [ops[q]._replace(starts=0)])]
+    return "early", min(sooner, key=lambda q: (ops[q].starts, q))
 
 
-def source_text(log, place, why):
+def unsourced_text(log, place, why):
     line, op = place + 2, log.lines[place].op
     if why == ("unwritten",):
         sentence = f"Line {line} found a record that is neither the opening nor written by another line."
         return f"unlawful unwritten {line}\nline {line}: {log.lines[place].text}\n{sentence}\n"
     other, source = why[1] + 2, log.lines[why[1]]
-    times = f"line {line} ended at {op.ends}, line {other} began at {source.op.starts}"
-    shown = f"line {line}: {log.lines[place].text}\nline {other}: {source.text}\n"
-    return f"unlawful early {line} {other}\n{shown}Line {line} found a record that is first written later: {times}.\n"
+    shown = "".join(f"line {n}: {log.lines[n - 2].text}\n" for n in sorted((line, other)))
+    times = f"line {line} ended at {op.ends}, line {other}, the first that can, began at {source.op.starts}"
+    return f"unlawful early {line} {other}\n{shown}Line {line} found a record that no other line can have written by then: {times}.\n"
 
 
 def counts(log):
@@ -220,9 +226,9 @@ def answer(data):
     place = lost_at(log.opening, ops)
     if place is None:
         return "lawful\n" + counts(log), "", 0
-    why = source_of(log.opening, ops, place)
+    why = unsourced(log.opening, ops, place)
     if why:
-        return source_text(log, place, why) + counts(log), "", 1
+        return unsourced_text(log, place, why) + counts(log), "", 1
     line, lost = place + 2, log.lines[place]
     told = f"Up to the end of line {line}, at {lost.op.ends}, no order of the operations is lawful."
     return f"unlawful lost {line}\nline {line}: {lost.text}\n{told}\n" + counts(log), "", 1

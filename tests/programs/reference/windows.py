@@ -57,7 +57,7 @@ def is_right(data, text):
     log = exchanges.read(data)
     ops = [it.op for it in log.lines]
     place = exchanges.lost_at(log.opening, ops)
-    if exchanges.source_of(log.opening, ops, place):
+    if exchanges.unsourced(log.opening, ops, place):
         return text == exchanges.answer(data)[0]
     last = ops[place].ends
     told = SENTENCE.search(text)
