@@ -40,18 +40,19 @@ compares() {
     fi
 }
 
-# Sees that the last comparison had each refusal of a log whose records repeat.
-has_refused() {
-    for told in 'line N: no header of kind `lines`, and no document: not JSON' 'line N: not JSON' 'line N: end before begin' \
+# Sees that the last comparison had each kind of answer to a log whose records repeat, and each refusal of one.
+has_answers() {
+    for told in lawful 'unlawful unwritten' 'unlawful early' 'unlawful together' 'unlawful lost' \
+        'line N: no header of kind `lines`, and no document: not JSON' 'line N: not JSON' 'line N: end before begin' \
         'missing opening' 'shape of opening' 'shape of limit' 'range of limit' 'law of limit' 'missing who' 'missing kind' 'missing begin' 'missing end' 'missing record' \
         'shape of who' 'shape of kind' 'shape of begin' 'shape of end' 'shape of record' 'shape of key' 'missing from' 'missing swapped' \
         'shape of from' 'shape of swapped' 'shape of found' 'law of record' 'law of swapped' 'law of found' 'law of key' 'missing limit' \
         'missing ops' 'shape of ops' 'law of ops'; do
         grep -q -x -e "[1-9][0-9]* $told" -e "[1-9][0-9]* line N: $told" "$room/out" && continue
-        fail "refusals of random logs whose records repeat" "none is told: $told"
+        fail "answers and refusals of random logs whose records repeat" "none is told: $told"
         return
     done
-    pass "refusals of random logs whose records repeat"
+    pass "answers and refusals of random logs whose records repeat"
 }
 
 compares_all() {
@@ -96,7 +97,7 @@ STUB
 
 test_documents() {
     compares_all "$1" "$2" "$3" "$4"
-    has_refused
+    has_answers
     differs "another verdict" check 's/^unlawful reading/unlawful precedence/'
     differs "another order of a cell" cell 's/^order: 0 1/order: 1 0/'
     differs "another order of a log" log 's/^order: \([0-9]*\) \([0-9]*\)/order: \2 \1/'
@@ -104,11 +105,13 @@ test_documents() {
     differs "an unsound race" race 's/^origin: sound/origin: task 0, entry 0/'
     differs "another line of what is lost" repeats 's/^unlawful lost /&1/'
     differs "a log that is lost told as lawful" repeats 's/^unlawful lost .*/lawful/'
+    differs "an unwritten record told as lost" repeats 's/^unlawful unwritten /unlawful lost /'
+    differs "another line that can have written a record" repeats 's/^\(unlawful early [0-9]*\) /\1 1/'
     differs "another beginning of a window" repeats 's/^From time \([0-9]*\)/&1/'
     differs "a window without its first line" repeats 's/^unlawful together [0-9]*/unlawful together/'
     differs "what is uncertain as unfinished" repeats 's/ 0 unfinished, 1 uncertain/ 1 unfinished, 0 uncertain/'
     echo "1 line N: not JSON" >"$room/out"
-    catches "a refusal that no log has" 'none is told: line N: no header' has_refused
+    catches "a refusal that no log has" 'none is told: line N: no header' has_answers
     catches "no document" "0 documents of seed 1" compares a 1 0 check
     same=': the same bytes and status'
     catches "fewer documents than are asked for" "not 30 documents" compares_saying "20 documents of seed 1, 20 cell$same" 30 cell

@@ -56,10 +56,10 @@ def ended(command, data):
     return done.stdout.decode(), done.stderr.decode(), done.returncode
 
 
-def ending_of(wanted):
-    if wanted[2] == 3:
-        return re.sub(r"\d+", "N", wanted[1].strip().removeprefix("fsr: "))
-    told = wanted[0] if isinstance(wanted[0], str) else f"unlawful {wanted[0][0]}"
+def ending_of(answer):
+    if answer[2] == 3:
+        return re.sub(r"\d+", "N", answer[1].strip().removeprefix("fsr: "))
+    told = answer[0] if isinstance(answer[0], str) else f"unlawful {answer[0][0]}"
     return re.sub(r"( \d+)+$", "", told.split("\n")[0])
 
 
@@ -78,7 +78,7 @@ def main():
             print(f"document {number} of seed {given.seed}, {' '.join(['order', *words])} < {compare.keep(data)}", "the program:", *found, sep="\n")
             print("the reference:", *wanted, sep="\n")
             return 1
-        endings[ending_of(wanted)] += 1
+        endings[ending_of(found if kind == "repeats" else wanted)] += 1
         kinds[("lawful", "lost", "", "refused")[wanted[2]] if kind == "repeats" else "others"] += 1
     by_kind = "".join(f", {count} {kind}" for kind, count in sorted(kinds.items()))
     compare.tell_endings(endings, f"{kinds.total()} documents of seed {given.seed}{by_kind}")
