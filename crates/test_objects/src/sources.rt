@@ -20,7 +20,7 @@ fn late() -> [Operation<Exchange>; 4] {
 fn found_too_early_or_never_left(rt: HostRuntime) {
     assert_eq!(rt;
         unsourced_at(0, &late(), 0),
-        Some(Unsourced::Early { write: 2 })
+        Some(Unsourced::Early { source: 2 })
     );
     assert_eq!(rt; unsourced_at(0, &late(), 3), Some(Unsourced::Unwritten));
     assert_eq!(rt; unsourced_at(7, &late(), 3), None);
@@ -43,6 +43,21 @@ fn nothing_was_found(rt: HostRuntime) {
     assert_eq!(rt;
         unsourced_at(0, &[done(1, 2, Exchange::Tries(7, 8))], 0),
         None
+    );
+}
+
+/// Of two that began at once the first is told, and a compare-and-set from a record to itself leaves none.
+#[test]
+fn of_several_the_first(rt: HostRuntime) {
+    let log = [
+        done(1, 2, Exchange::Gets(5)),
+        done(3, 4, Exchange::Swaps(5, 5)),
+        done(6, 9, Exchange::Sets(5)),
+        done(6, 7, Exchange::Sets(5)),
+    ];
+    assert_eq!(rt;
+        unsourced_at(0, &log, 0),
+        Some(Unsourced::Early { source: 2 })
     );
 }
 
