@@ -8,7 +8,7 @@ use Rattle.std.proofs.lemmas.Option.{same_Some}
 use Rattle.object_core.specs.declared.operation.Operation.{Operation}
 use Rattle.object_registers.specs.declared.exchanging.Exchange.{Exchange}
 use Rattle.object_sources.specs.Sources.{HasFoundAnother, IsFoundEarly, IsFoundUnwritten, IsUnsourced, MayLeave}
-use Rattle.object_sources.specs.inner.Firsts.{ComesFirst, IsFirstBelow, is_sooner, starts_at}
+use Rattle.object_sources.specs.inner.Firsts.{BeganFirst, IsFirstBelow, is_sooner, starts_at}
 
 -- what ended before a moment ended before each later one
 pub before_later : (ends : Option ℕ) (x y : ℕ) → x ≤ y → IsSomeAnd ends (λ end. end < x) → IsSomeAnd ends (λ end. end < y)
@@ -64,7 +64,7 @@ module _ (log : List (Operation Exchange)) (value : ℕ) where
       | inr le ↦
           let e : q ≡ n = omega (arith, l, le) in
           let least : starts_at log source ≤ starts_at log n = no_less (starts_at log n) (starts_at log source) late in
-          let m = h.1 in subst (ComesFirst log source) (sym e) (first_of_two (starts_at log source) (starts_at log n) least (omega (arith, m)))
+          let m = h.1 in subst (BeganFirst log source) (sym e) (first_of_two (starts_at log source) (starts_at log n) least (omega (arith, m)))
     ]),
   )
     where

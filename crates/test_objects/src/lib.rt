@@ -9,6 +9,8 @@ mod sources;
 #[cfg(test)]
 mod steps;
 #[cfg(test)]
+mod watch;
+#[cfg(test)]
 mod windows;
 
 pub use lock::{Lock, Turn};

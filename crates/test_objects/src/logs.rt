@@ -17,7 +17,7 @@ pub(crate) fn done<W>(starts: u64, ends: u64, what: W) -> Operation<W> {
 }
 
 /// One that ended, and may have done nothing.
-fn perhaps<W>(starts: u64, ends: u64, what: W) -> Operation<W> {
+pub(crate) fn perhaps<W>(starts: u64, ends: u64, what: W) -> Operation<W> {
     Operation {
         starts,
         ends: Some(ends),

@@ -16,14 +16,14 @@ is_sooner log q None = true
 is_sooner log q (Some first) = nat_lt (starts_at log q) (starts_at log first)
 
 -- of two places that of the operation that began first, and of two that began at once the lesser one
-abbrev pub ComesFirst : List (Operation Exchange) → ℕ → ℕ → Type 0
-ComesFirst log p q = (starts_at log p < starts_at log q) ⊎ ((starts_at log p ≡ starts_at log q) × (p ≤ q))
+abbrev pub BeganFirst : List (Operation Exchange) → ℕ → ℕ → Type 0
+BeganFirst log p q = (starts_at log p < starts_at log q) ⊎ ((starts_at log p ≡ starts_at log q) × (p ≤ q))
 
 -- of the sources at places below n the first; none if there is none
 abbrev pub IsFirstBelow : List (Operation Exchange) → ℕ → ℕ → Option ℕ → Type 0
 IsFirstBelow log value n None = (q : ℕ) → q < n → ¬ MayLeave log value q
 IsFirstBelow log value n (Some source) =
-    MayLeave log value source × (source < n) × ((q : ℕ) → q < n → MayLeave log value q → ComesFirst log source q)
+    MayLeave log value source × (source < n) × ((q : ℕ) → q < n → MayLeave log value q → BeganFirst log source q)
 
 -- why this operation can't have found this record
 abbrev pub IsUnsourcedOf : List (Operation Exchange) → ℕ → Operation Exchange → ℕ → Option Unsourced → Type 0

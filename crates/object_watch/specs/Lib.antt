@@ -1,0 +1,4 @@
+-- What the contracts speak of.
+pub mod Remainders
+pub mod Watches
+pub mod inner

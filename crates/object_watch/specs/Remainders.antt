@@ -1,0 +1,49 @@
+-- What is left of a log: the operations that are still to be placed (this project's own).
+use Rattle.std.specs.Prelude.{◌≡◌, ℕ, zero, suc, ◌<◌, ◌≤◌, nat_le, cond, List, [], ◌∷◌, ◌++◌, map, slice_get}
+use Rattle.std.specs.Prelude.{Option, None, Some}
+use Rattle.object_core.specs.declared.operation.Operation.{Operation}
+use Rattle.object_core.specs.Logs.{IsLinearizable}
+use Rattle.object_sweep.specs.Rests.{RunForwards}
+use Rattle.object_watch.specs.declared.remainder.Remainder.{Remainder}
+
+-- all but the entry at this place
+abbrev pub removed : {X : Type 0} → ℕ → List X → List X
+removed q [] = []
+removed zero (x ∷ xs) = xs
+removed (suc q) (x ∷ xs) = x ∷ removed q xs
+
+-- an end that comes later isn't known
+abbrev pub known_end : ℕ → Option ℕ → Option ℕ
+known_end last None = None
+known_end last (Some end) = cond (nat_le end last) (Some end) None
+
+-- an operation as it is known at a moment
+abbrev pub known : {W : Type 0} → ℕ → Operation W → Operation W
+known last o = record { starts = o.starts; ends = known_end last o.ends; maybe = o.maybe; what = o.what }
+
+module _ {W : Type 0} where
+  -- no operation ends before this moment, or before it began
+  pub record IsAhead (end : ℕ) (rest : List (Operation W)) : Type 0 where
+    pub ends : (p at : ℕ) (o : Operation W) → slice_get rest p ≡ Some o → o.ends ≡ Some at → end ≤ at
+    pub forwards : RunForwards rest
+
+  -- what comes later, and is known at a later moment
+  pub record IsFuture (moment last : ℕ) (future : List (Operation W)) : Type 0 where
+    pub later : moment ≤ last
+    pub begins : (i : ℕ) (o : Operation W) → slice_get future i ≡ Some o → moment < o.starts
+    pub forwards : RunForwards future
+
+module _ {S W : Type 0} where
+  -- no operation of these ends before this moment, or before it began
+  abbrev pub AreAhead : ℕ → List (Remainder S W) → Type 0
+  AreAhead end held = (i : ℕ) (one : Remainder S W) → slice_get held i ≡ Some one → IsAhead end one.rest.items
+
+module _ {S W : Type 0} (after : S → W → Option S) (future : List (Operation W)) (last : ℕ) where
+  -- from this state what is left has a lawful order with this future, as both are known at last
+  abbrev pub IsLawfulWith : S → List (Operation W) → Type 0
+  IsLawfulWith s rest = IsLinearizable after s (map (known last) (rest ++ future))
+
+  -- one of these has
+  abbrev pub AnyLawfulWith : List (Remainder S W) → Type 0
+  AnyLawfulWith held = (i : ℕ) × (one : Remainder S W) × (slice_get held i ≡ Some one)
+      × IsLawfulWith one.state one.rest.items

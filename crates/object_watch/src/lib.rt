@@ -1,0 +1,13 @@
+//! Watching a log of an object as it comes: `take` an operation that begins no earlier than what is known, and `rise` to a
+//! moment before which nothing more begins.
+#![tactic(auto)]
+
+mod ends;
+pub mod laws;
+mod level;
+mod pass;
+mod remainder;
+mod watch;
+
+pub use remainder::Remainder;
+pub use watch::{Risen, Watch, WatchError, open_watch, rise, take};
