@@ -306,7 +306,8 @@ fn a_side_that_was_cut_off_is_refused() {
     change(name, handle as u64, 255);
     for word in 1..5 {
         let knows = at - 0x2000_0000_0000 + 8 * word;
-        change(name, knows, u64::from(word < 4) ^ word_of(name, knows as usize) & 1);
+        // The bits are the other ones, and the number is none that it wrote.
+        change(name, knows, if word < 4 { 1 ^ word_of(name, knows as usize) } else { 0 });
     }
     let mut reader = root.limits.claim_reader(block).unwrap();
     assert_eq!((reader.latest(), reader.number()), (limits(1), 1));
