@@ -111,7 +111,7 @@ test_documents() {
     differs "a window without its first line" repeats 's/^unlawful together [0-9]*/unlawful together/'
     differs "what is uncertain as unfinished" repeats 's/ 0 unfinished, 1 uncertain/ 1 unfinished, 0 uncertain/'
     echo "1 line N: not JSON" >"$room/out"
-    catches "a refusal that no log has" 'none is told: line N: no header' has_answers
+    catches "an answer that no log has" 'none is told: lawful' has_answers
     catches "no document" "0 documents of seed 1" compares a 1 0 check
     same=': the same bytes and status'
     catches "fewer documents than are asked for" "not 30 documents" compares_saying "20 documents of seed 1, 20 cell$same" 30 cell

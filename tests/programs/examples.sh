@@ -17,4 +17,4 @@ make_stub fsr <<'STUB'
 cat >/dev/null; cat examples/lawful.txt; echo more >&2
 STUB
 catches "a line more on standard error" "it printed more" over_stubs sees a fsr examples/lawful.json examples/lawful.txt check
-catches "a program that isn't there" "wasn't built" over_stubs sees a picture examples/lawful.json examples/lawful.txt
+catches "a program that isn't there" "wasn't built" over_stubs sees a no_program examples/lawful.json examples/lawful.txt

@@ -1,4 +1,4 @@
--- What is left of a log: the operations that are still to be placed (this project's own).
+-- What is left of a log: the operations that aren't placed (this project's own).
 use Rattle.std.specs.Prelude.{◌≡◌, ℕ, zero, suc, ◌<◌, ◌≤◌, nat_le, cond, List, [], ◌∷◌, ◌++◌, map, slice_get}
 use Rattle.std.specs.Prelude.{Option, None, Some}
 use Rattle.object_core.specs.declared.operation.Operation.{Operation}
@@ -27,7 +27,7 @@ module _ {W : Type 0} where
     pub ends : (p at : ℕ) (o : Operation W) → slice_get rest p ≡ Some o → o.ends ≡ Some at → end ≤ at
     pub forwards : RunForwards rest
 
-  -- what comes later, and is known at a later moment
+  -- what begins later than this moment, as it is known at that moment or a later one
   pub record IsFuture (moment last : ℕ) (future : List (Operation W)) : Type 0 where
     pub later : moment ≤ last
     pub begins : (i : ℕ) (o : Operation W) → slice_get future i ≡ Some o → moment < o.starts

@@ -11,7 +11,7 @@ use Rattle.object_watch.specs.declared.watch.Watch.{Watch}
 use Rattle.object_watch.specs.declared.watch.WatchError.{WatchError}
 use Rattle.object_watch.specs.declared.watch.WatchError.TheVariants.{NoMemory, Backwards}
 
--- what comes from this moment on, and is known at a later one
+-- what begins at this moment or later, as it is known at a moment no earlier than the one before
 pub record ComesFrom {W : Type 0} (moment last : ℕ) (future : List (Operation W)) : Type 0 where
   pub later : moment ≤ last + 1
   pub begins : (i : ℕ) (o : Operation W) → slice_get future i ≡ Some o → moment ≤ o.starts
@@ -37,7 +37,7 @@ module _ {S W : Type 0} (after : S → W → Option S) (opening : S) (log : List
   IsLostAfter moment = (future : List (Operation W)) (last : ℕ) → IsFuture moment last future →
       ¬ IsLinearizable after opening (map (known last) (log ++ future))
 
-  -- what is held of the log, to which operations come that begin no earlier than this moment: with all that may come
+  -- what is held of the log, to which operations come that begin at this moment or later: with all that may come
   -- the log has a lawful order exactly if something that is held has one
   pub record IsWatchOf (moment : ℕ) (watch : Watch S W) : Type 0 where
     pub some : 0 < length watch.held.items

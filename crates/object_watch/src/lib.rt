@@ -1,5 +1,5 @@
-//! Watching a log of an object as it comes: `take` an operation that begins no earlier than what is known, and `rise` to a
-//! moment before which nothing more begins.
+//! Watching a log of an object as it comes: `take` an operation, which begins later than the log is known, and `rise` to a
+//! moment by which nothing more begins.
 #![tactic(auto)]
 
 mod ends;

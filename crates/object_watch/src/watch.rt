@@ -57,7 +57,8 @@ fn is_backwards<W>(op: &Operation<W>) -> bool
     }
 }
 
-/// One more operation, which begins no earlier than the moment up to which the log is known.
+/// One more operation, which has to begin later than the moment up to which the log is known. After `NoMemory` some of what
+/// is held has it, so the watch is of no use.
 pub fn take<O: Object>(
     watch: &mut Watch<O, O::What>,
     op: Operation<O::What>,
@@ -85,7 +86,8 @@ fn push_all<O, W: Copy>(held: &mut Vec<Remainder<O, W>>, op: Operation<W>) -> Re
     Ok(())
 }
 
-/// Up to this moment nothing more comes: whether the log has a lawful order, or the first moment at which it is lost.
+/// Nothing more begins by this moment: whether the log has a lawful order up to then, or the first moment at which it is lost.
+/// What is held isn't bounded: operations that never end, and many that are under way at once, double it.
 pub fn rise<O: Object>(
     alloc: Global,
     watch: Watch<O, O::What>,

@@ -58,8 +58,7 @@ fn before(
     rise(alloc, watch, moment - 1).ok()
 }
 
-/// A read behind a compare-and-set of what that took away: lost at the read's end, though a later write would make it
-/// right.
+/// A read behind a compare-and-set of what that took away: lost at the read's end, and a write that comes later is too late.
 #[test]
 fn lost_at_once(rt: HostRuntime) {
     let log = [
@@ -71,7 +70,7 @@ fn lost_at_once(rt: HostRuntime) {
     assert_eq!(rt; watched(rt.alloc(), &log), Outcome::LostAt(6));
 }
 
-/// Two writes beside four reads, which show 0, 5, 7 and 5 again, as the write of 5 never ended and another one was there.
+/// Three writes beside four reads, which show 0, 5, 7 and 5 again: one write of 5 never ended, and another one was there.
 #[test]
 fn lawful_with_what_overlaps(rt: HostRuntime) {
     let log = [
@@ -86,7 +85,7 @@ fn lawful_with_what_overlaps(rt: HostRuntime) {
     assert_eq!(rt; watched(rt.alloc(), &log), Outcome::Lawful);
 }
 
-/// A write that is over by its end, done or not, excuses what begins by then, and nothing later.
+/// A write that is over by its end, done or not, excuses a later read of its record, and none behind a read of what was there.
 #[test]
 fn over_by_its_end(rt: HostRuntime) {
     let done_then = [
