@@ -28,9 +28,12 @@ LONGEST_GAP, TRIES = 100, 3
 # The longest time in milliseconds from asking for the page to its first verdict with a picture.
 LONGEST_START = 1000
 STALE, CROSSED = (text_of(f"{TOP}/examples/{it}") for it in ("lines_stale.jsonl", "crossed.json"))
-# (a read of a record that nothing wrote, which is lawful from another opening)
-LOST = '''{"kind":"lines","opening":0,"repeats":true}
+# (a read of a record that nothing wrote, and a compare-and-set that found another one though nothing but the opening was there)
+UNWRITTEN = '''{"kind":"lines","opening":0,"repeats":true}
 {"who":0,"kind":"read","begin":1,"end":2,"record":5}
+'''
+LOST = '''{"kind":"lines","opening":0,"repeats":true}
+{"who":0,"kind":"cas","begin":1,"end":2,"from":0,"record":5,"swapped":false}
 '''
 LAWFUL = STALE.replace("[0]", "7")
 # Hands a file with this text to the page, by a drop or as what is pasted.
@@ -180,6 +183,8 @@ class Use:
         self.need("Line 3 gave the opening" in self.shown()[1], f"the sentence is {self.shown()[1]}")
         self.after("example('lines_lost.jsonl')")
         self.need(self.shown()[1].startswith("From time 5 to time 12 no order"), f"the sentence is {self.shown()[1]}")
+        self.after(f"(put({json.dumps(UNWRITTEN)}, ''), ask())")
+        self.need(self.shown()[1].startswith("Line 2 found a record"), f"the sentence is {self.shown()[1]}")
         self.after(f"(put({json.dumps(LOST)}, ''), ask())")
         self.need(self.shown()[1].startswith("Up to the end of line 2"), f"the sentence is {self.shown()[1]}")
         self.after(f"(put({json.dumps(text_of(f'{TOP}/examples/race.json'))}, ''), ask())")
