@@ -260,9 +260,10 @@ fn boards_of_two_and_of_sixteen_tell_what_is_new() {
     let Boards { pair, most } = block.root();
     pair.make(&block, &limits(0)).unwrap();
     most.make(&block, &limits(0)).unwrap();
-    for (mut one, mut other) in
-        [(pair.claim(&block, 0).unwrap(), pair.claim(&block, 1).unwrap()), (most.claim(&block, 15).unwrap(), most.claim(&block, 7).unwrap())]
-    {
+    for (mut one, mut other) in [
+        (pair.claim(&block, 0).unwrap(), pair.claim(&block, 1).unwrap()),
+        (most.claim(&block, 15).unwrap(), most.claim(&block, 7).unwrap()),
+    ] {
         assert_eq!((one.news(), other.news()), (None, None));
         let stamp = one.write(&limits(1)).unwrap();
         assert_eq!((other.news(), other.stamp(), other.news(), one.news()), (Some(limits(1)), stamp, None, None));
