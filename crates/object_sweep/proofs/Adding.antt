@@ -2,7 +2,9 @@
 use Rattle.std.proofs.Common.{◌≡◌, ℕ, ◌+◌, ◌<◌, ◌≤◌, Bool, true, false, ◌||◌, cond, nat_eq, List, [], ◌∷◌, ◌++◌, length, slice_get}
 use Rattle.std.proofs.Common.{get_or, Option, None, Some, refl, sym, ◌∙◌, ap, subst, arith, ◌⊎◌, inl, inr}
 use Rattle.std.proofs.lemmas.Bool.{cases_Bool, cases_lt}
-use Rattle.std.proofs.lemmas.Option.{same_Some, slice_get_within, slice_get-get_or}
+use Rattle.std.proofs.lemmas.Option.{get_or_from_slice_get, same_Some, slice_get_within, slice_get-get_or}
+use Rattle.std.specs.List.Sorted.{IsPermutation}
+use Rattle.std.proofs.lemmas.List.Sorted.{Contains-permutation, IsPermutation-sym}
 use Rattle.object_core.specs.declared.operation.Operation.{Operation}
 use Rattle.object_sweep.specs.declared.configuration.Configuration.{Configuration}
 use Rattle.object_sweep.specs.inner.Cuts.{EndsAt, IsLogCut}
@@ -20,9 +22,12 @@ use Rattle.object_sweep.proofs.Lists.{at_is_in, closed_behind, get_front, get_la
 use Rattle.object_sweep.proofs.Lists.{without_push}
 use Rattle.object_sweep.proofs.Lists.{within_itself}
 use Rattle.object_sweep.proofs.Placed.{same_number}
-use Rattle.object_sweep.proofs.Cuts.{cut_forwards, cut_handled, cut_next, cut_way}
+use Rattle.object_sweep.proofs.Cuts.{cut_unsure, cut_forwards, cut_handled, cut_next, cut_way}
 use Rattle.object_sweep.proofs.Lacking.{lacking_of}
-use Rattle.object_sweep.proofs.Exact.{finished, held_finish, same_finish, same_rests}
+use Rattle.object_sweep.proofs.Covering.{all_sure}
+use Rattle.object_sweep.proofs.Exact.{covered_finish, covered_rests, finished, same_finish}
+use Rattle.object_sweep.specs.inner.Steps.{Covers, IsCovered, sure_at}
+use Rattle.object_core.specs.Logs.{is_due}
 
 module _ {S : Type 0} where
   turned_same : (one : Configuration S) (other : Configuration S) → IsSameAs one other.state other.placed.items →
@@ -34,15 +39,43 @@ module _ {S : Type 0} where
       let P : List ℕ → Type 0 = λ z. (is_within one.placed.items z ≡ true) × (is_within z one.placed.items ≡ true) in
       let w = subst P h.1 (within_itself one.placed.items, within_itself one.placed.items) in (h.0, w.0, w.1)
 
+  -- what is held is held however it is named
+  pub as_held : (held : List (Configuration S)) (one : Configuration S) (s : S) (placed : List ℕ) → IsMadeOf one s placed →
+      IsHeld held s placed → IsHeld held one.state one.placed.items
+  as_held held one s placed of h =
+      let P : S → Type 0 = λ z. IsHeld held z one.placed.items in
+      let Q : List ℕ → Type 0 = λ z. IsHeld held s z in subst P (sym of.0) (subst Q (sym of.1) h)
+
+  pub same_grown : (old new : List (Configuration S)) → new ≡ old → IsGrown old new
+  same_grown old new e i one h = ap (λ z. slice_get z i) e ∙ h
+
+module _ {S : Type 0} (sure : ℕ → Bool) where
+  -- the same one can do all of it
+  pub same_covers : (one : Configuration S) (s : S) (placed : List ℕ) → IsSameAs one s placed → Covers sure one s placed
+  same_covers one s placed h = (h.0, h.1, all_sure sure one.placed.items placed h.2)
+
+  covers_itself : (one : Configuration S) (s : S) (placed : List ℕ) → IsMadeOf one s placed → Covers sure one s placed
+  covers_itself one s placed of = same_covers one s placed (of_same one s placed of)
+
+  pub held_covers : (held : List (Configuration S)) (s : S) (placed : List ℕ) → IsHeld held s placed → IsCovered sure held s placed
+  held_covers held s placed h = (h.0, h.1, h.2, same_covers h.1 s placed h.3)
+
+  -- what is held or covered is so however it is named
+  pub covered_as : (held : List (Configuration S)) (one : Configuration S) (s : S) (placed : List ℕ) → IsMadeOf one s placed →
+      IsCovered sure held one.state one.placed.items → IsCovered sure held s placed
+  covered_as held one s placed of h =
+      let P : S → Type 0 = λ z. IsCovered sure held z one.placed.items in
+      let Q : List ℕ → Type 0 = λ z. IsCovered sure held s z in subst Q of.1 (subst P of.0 h)
+
   -- the same is held, or it is pushed
-  pub added_held : (old : List (Configuration S)) (s : S) (placed : List ℕ) → IsHeld old s placed → IsAdded old s placed old
+  pub added_held : (old : List (Configuration S)) (s : S) (placed : List ℕ) → IsCovered sure old s placed → IsAdded sure old s placed old
   added_held old s placed h = record { grown = λ i one e. e; held = h; from = λ i one e. inl (i, e); apart = λ a. a }
 
   pub added_push : (old : List (Configuration S)) (s : S) (placed : List ℕ) (one : Configuration S) → ¬ IsHeld old s placed →
-      IsMadeOf one s placed → IsAdded old s placed (old ++ one ∷ [])
+      IsMadeOf one s placed → IsAdded sure old s placed (old ++ one ∷ [])
   added_push old s placed one not_held of = record {
     grown = get_front old (one ∷ []);
-    held = (length old, one, get_last old one, of_same one s placed of);
+    held = (length old, one, get_last old one, covers_itself one s placed of);
     from = from;
     apart = apart;
   }
@@ -76,41 +109,38 @@ module _ {S : Type 0} where
           by_places (inr f) (inr g) = ne (f.0 ∙ sym g.0)
 
   -- lists that grow
-  pub held_grown : (old new : List (Configuration S)) (s : S) (placed : List ℕ) → IsGrown old new → IsHeld old s placed →
-      IsHeld new s placed
+  pub held_grown : (old new : List (Configuration S)) (s : S) (placed : List ℕ) → IsGrown old new → IsCovered sure old s placed →
+      IsCovered sure new s placed
   held_grown old new s placed grown h = (h.0, h.1, grown h.0 h.1 h.2, h.3)
 
   pub put_in_grown : (b : Bool) (q : ℕ) (t : S) (placed : List ℕ) (waiting kept waiting' kept' : List (Configuration S)) →
-      IsGrown waiting waiting' → IsGrown kept kept' → IsPutIn b q t placed waiting kept → IsPutIn b q t placed waiting' kept'
+      IsGrown waiting waiting' → IsGrown kept kept' → IsPutIn sure b q t placed waiting kept → IsPutIn sure b q t placed waiting' kept'
   put_in_grown true q t placed waiting kept waiting' kept' w k h = held_grown kept kept' t placed k h
   put_in_grown false q t placed waiting kept waiting' kept' w k h = held_grown waiting waiting' t (placed ++ q ∷ []) w h
 
-  pub same_grown : (old new : List (Configuration S)) → new ≡ old → IsGrown old new
-  same_grown old new e i one h = ap (λ z. slice_get z i) e ∙ h
-
   put_facts : (b : Bool) (q : ℕ) (t : S) (placed : List ℕ) (waiting kept waiting' kept' : List (Configuration S)) →
-      IsPut b q t placed waiting kept waiting' kept' →
-      IsGrown waiting waiting' × IsGrown kept kept' × IsPutIn b q t placed waiting' kept'
+      IsPut sure b q t placed waiting kept waiting' kept' →
+      IsGrown waiting waiting' × IsGrown kept kept' × IsPutIn sure b q t placed waiting' kept'
   put_facts true q t placed waiting kept waiting' kept' h = (same_grown waiting waiting' h.0, h.1.grown, h.1.held)
   put_facts false q t placed waiting kept waiting' kept' h = (h.1.grown, same_grown kept kept' h.0, h.1.held)
 
   tried_facts : (m : Option S) (ending : ℕ) (placed : List ℕ) (q : ℕ) (waiting kept waiting' kept' : List (Configuration S)) →
-      IsTried m ending placed q waiting kept waiting' kept' → IsGrown waiting waiting' × IsGrown kept kept' ×
-      ((t : S) → m ≡ Some t → IsPutIn (nat_eq q ending) q t placed waiting' kept')
+      IsTried sure m ending placed q waiting kept waiting' kept' → IsGrown waiting waiting' × IsGrown kept kept' ×
+      ((t : S) → m ≡ Some t → IsPutIn sure (nat_eq q ending) q t placed waiting' kept')
   tried_facts None ending placed q waiting kept waiting' kept' h =
       (same_grown waiting waiting' h.0, same_grown kept kept' h.1, λ t e. cc)
   tried_facts (Some t) ending placed q waiting kept waiting' kept' h =
       let f = put_facts (nat_eq q ending) q t placed waiting kept waiting' kept' h in
-      (f.0, f.1, λ u e. subst (λ z. IsPutIn (nat_eq q ending) q z placed waiting' kept') (same_Some t u e) f.2)
+      (f.0, f.1, λ u e. subst (λ z. IsPutIn sure (nat_eq q ending) q z placed waiting' kept') (same_Some t u e) f.2)
 
-module _ {S W : Type 0} (after : S → W → Option S) (opening : S) (log : List (Operation W)) where
+module _ {S W : Type 0} (sure : ℕ → Bool) (after : S → W → Option S) (opening : S) (log : List (Operation W)) where
   reached_of : (ended : List ℕ) (one : Configuration S) (s : S) (placed : List ℕ) → IsMadeOf one s placed →
       IsReachable after opening log ended s placed → IsReachable after opening log ended one.state one.placed.items
   reached_of ended one s placed of h =
       let P : S → Type 0 = λ z. IsReachable after opening log ended z one.placed.items in
       let Q : List ℕ → Type 0 = λ z. IsReachable after opening log ended s z in subst P (sym of.0) (subst Q (sym of.1) h)
 
-  reached_more : (ended : List ℕ) (old new : List (Configuration S)) (s : S) (placed : List ℕ) → IsAdded old s placed new →
+  reached_more : (ended : List ℕ) (old new : List (Configuration S)) (s : S) (placed : List ℕ) → IsAdded sure old s placed new →
       AreReachable after opening log ended old → IsReachable after opening log ended s placed → AreReachable after opening log ended new
   reached_more ended old new s placed added yet h i one at = by_from (added.from i one at)
     where
@@ -120,7 +150,7 @@ module _ {S W : Type 0} (after : S → W → Option S) (opening : S) (log : List
       by_from (inr of) = reached_of ended one s placed of h
 
   sound_waiting : (ended : List ℕ) (ending : ℕ) (waiting kept waiting' : List (Configuration S)) (s : S) (placed : List ℕ) →
-      IsAdded waiting s placed waiting' → IsReachable after opening log ended s placed → is_in ending placed ≡ false →
+      IsAdded sure waiting s placed waiting' → IsReachable after opening log ended s placed → is_in ending placed ≡ false →
       AreSound after opening log ended ending waiting kept → AreSound after opening log ended ending waiting' kept
   sound_waiting ended ending waiting kept waiting' s placed added h lack yet = record {
     reached_waiting = reached_more ended waiting waiting' s placed added yet.reached_waiting h;
@@ -138,7 +168,7 @@ module _ {S W : Type 0} (after : S → W → Option S) (opening : S) (log : List
           by_from (inr of) = ap (is_in ending) of.1 ∙ lack
 
   sound_kept : (ended : List ℕ) (ending : ℕ) (waiting kept kept' : List (Configuration S)) (s : S) (placed : List ℕ) →
-      IsAdded kept s placed kept' → IsReachable after opening log (ending ∷ ended) s placed →
+      IsAdded sure kept s placed kept' → IsReachable after opening log (ending ∷ ended) s placed →
       AreSound after opening log ended ending waiting kept → AreSound after opening log ended ending waiting kept'
   sound_kept ended ending waiting kept kept' s placed added h yet = record {
     reached_waiting = yet.reached_waiting;
@@ -199,7 +229,7 @@ module _ {S W : Type 0} (after : S → W → Option S) (opening : S) (log : List
   put_sound : (ended under_way : List ℕ) (ending end : ℕ) → IsNextEnd log ended ending end → (s : S) (placed : List ℕ) (q : ℕ) (t : S) →
       CanPlace after log (is_closed ended placed) end s q t → IsReachable after opening log ended s placed → is_in ending placed ≡ false →
       (waiting kept waiting' kept' : List (Configuration S)) (b : Bool) → nat_eq q ending ≡ b →
-      IsPut b q t placed waiting kept waiting' kept' → AreSound after opening log ended ending waiting kept →
+      IsPut sure b q t placed waiting kept waiting' kept' → AreSound after opening log ended ending waiting kept →
       AreSound after opening log ended ending waiting' kept'
   put_sound ended under_way ending end next s placed q t can h lack waiting kept waiting' kept' true e put yet =
       let r = Places ended placed s h ending end q t next can in
@@ -217,7 +247,7 @@ module _ {S W : Type 0} (after : S → W → Option S) (opening : S) (log : List
   tried_sound : (ended under_way : List ℕ) (ending end : ℕ) → IsNextEnd log ended ending end → AreUnderWay log under_way ended end →
       (s : S) (placed : List ℕ) (n q : ℕ) → slice_get under_way n ≡ Some q → IsReachable after opening log ended s placed →
       is_in ending placed ≡ false → (waiting kept waiting' kept' : List (Configuration S)) (m : Option S) →
-      step_from after log s placed q ≡ m → IsTried m ending placed q waiting kept waiting' kept' →
+      step_from after log s placed q ≡ m → IsTried sure m ending placed q waiting kept waiting' kept' →
       AreSound after opening log ended ending waiting kept → AreSound after opening log ended ending waiting' kept'
   tried_sound ended under_way ending end next way s placed n q at h lack waiting kept waiting' kept' None e tried yet =
       let P : List (Configuration S) → Type 0 = λ z. AreSound after opening log ended ending z kept' in
@@ -229,7 +259,7 @@ module _ {S W : Type 0} (after : S → W → Option S) (opening : S) (log : List
 
   left_sound : (ended : List ℕ) (ending end : ℕ) → IsNextEnd log ended ending end → (s : S) (placed : List ℕ) →
       IsReachable after opening log ended s placed → is_in ending placed ≡ false → (waiting kept waiting' kept' : List (Configuration S))
-      (b : Bool) → may_be_left_out log ending ≡ b → IsLeftOut b s placed waiting kept waiting' kept' →
+      (b : Bool) → may_be_left_out log ending ≡ b → IsLeftOut sure b s placed waiting kept waiting' kept' →
       AreSound after opening log ended ending waiting kept → AreSound after opening log ended ending waiting' kept'
   left_sound ended ending end next s placed h lack waiting kept waiting' kept' true e left yet =
       let P : List (Configuration S) → Type 0 = λ z. AreSound after opening log ended ending z kept' in
@@ -242,7 +272,7 @@ module _ {S W : Type 0} (after : S → W → Option S) (opening : S) (log : List
 
   sorted_sound : (ended : List ℕ) (ending end : ℕ) → IsNextEnd log ended ending end → (s : S) (placed : List ℕ) →
       IsReachable after opening log ended s placed → (waiting kept waiting' kept' : List (Configuration S))
-      (b : Bool) → is_in ending placed ≡ b → IsSorted b ending s placed waiting kept waiting' kept' →
+      (b : Bool) → is_in ending placed ≡ b → IsSorted sure b ending s placed waiting kept waiting' kept' →
       AreSound after opening log ended ending waiting kept → AreSound after opening log ended ending waiting' kept'
   sorted_sound ended ending end next s placed h waiting kept waiting' kept' true e sorted yet =
       let P : List (Configuration S) → Type 0 = λ z. AreSound after opening log ended ending z kept' in
@@ -252,15 +282,16 @@ module _ {S W : Type 0} (after : S → W → Option S) (opening : S) (log : List
       let P : List (Configuration S) → Type 0 = λ z. AreSound after opening log ended ending waiting' z in
       subst P (sym sorted.0) (sound_waiting ended ending waiting kept waiting' s placed sorted.1 h e yet)
 
-module _ {S W : Type 0} (after : S → W → Option S) (log : List (Operation W)) where
+module _ {S W : Type 0} (sure : ℕ → Bool) (after : S → W → Option S) (log : List (Operation W)) where
   left_facts : (b : Bool) (s : S) (placed : List ℕ) (waiting kept waiting' kept' : List (Configuration S)) →
-      IsLeftOut b s placed waiting kept waiting' kept' → IsGrown waiting waiting' × IsGrown kept kept' × (b ≡ true → IsHeld kept' s placed)
+      IsLeftOut sure b s placed waiting kept waiting' kept' → IsGrown waiting waiting' × IsGrown kept kept' × (b ≡ true →
+      IsCovered sure kept' s placed)
   left_facts true s placed waiting kept waiting' kept' h = (same_grown waiting waiting' h.0, h.1.grown, λ e. h.1.held)
   left_facts false s placed waiting kept waiting' kept' h = (same_grown waiting waiting' h.0, same_grown kept kept' h.1, λ e. cc)
 
   pub explored_none : (under_way : List ℕ) (ending : ℕ) (s : S) (placed : List ℕ) (waiting kept waiting' kept' : List (Configuration S)) →
-      IsLeftOut (may_be_left_out log ending) s placed waiting kept waiting' kept' →
-      IsExplored after log under_way ending s placed 0 waiting kept waiting' kept'
+      IsLeftOut sure (may_be_left_out log ending) s placed waiting kept waiting' kept' →
+      IsExplored sure after log under_way ending s placed 0 waiting kept waiting' kept'
   explored_none under_way ending s placed waiting kept waiting' kept' h =
       let f = left_facts (may_be_left_out log ending) s placed waiting kept waiting' kept' h in
       record {
@@ -268,17 +299,17 @@ module _ {S W : Type 0} (after : S → W → Option S) (log : List (Operation W)
         grown_kept = f.1;
         left_out = f.2;
         tried = λ j q t l. absurd (omega arith);
-        sound = λ opening ended end next way r lack. left_sound after opening log ended ending end next s placed r lack waiting kept
+        sound = λ opening ended end next way r lack. left_sound sure after opening log ended ending end next s placed r lack waiting kept
             waiting' kept' (may_be_left_out log ending) refl h;
       }
 
   either_grown : (under_way : List ℕ) (ending q : ℕ) (t : S) (placed : List ℕ) (waiting kept waiting' kept' : List (Configuration S)) →
       IsGrown waiting waiting' → IsGrown kept kept' →
-      IsIdle after (slice_get log q) ⊎ IsPlacedFor after log under_way ending placed q t waiting kept →
-      IsIdle after (slice_get log q) ⊎ IsPlacedFor after log under_way ending placed q t waiting' kept'
+      IsIdle after (slice_get log q) ⊎ IsPlacedFor sure after log under_way ending placed q t waiting kept →
+      IsIdle after (slice_get log q) ⊎ IsPlacedFor sure after log under_way ending placed q t waiting' kept'
   either_grown under_way ending q t placed waiting kept waiting' kept' w k (inl idle) = inl idle
   either_grown under_way ending q t placed waiting kept waiting' kept' w k (inr p) =
-      inr (p.0, p.1, put_in_grown (nat_eq p.0 ending) p.0 t placed waiting kept waiting' kept' w k p.2)
+      inr (p.0, p.1, put_in_grown sure (nat_eq p.0 ending) p.0 t placed waiting kept waiting' kept' w k p.2)
 
   -- what is placed for another one leads to the same state
   made_for : (s t : S) (p q : ℕ) (m n : Option (Operation W)) → MayStandFor after p q m n → made_by after s n ≡ Some t →
@@ -291,7 +322,7 @@ module _ {S W : Type 0} (after : S → W → Option S) (log : List (Operation W)
       step_from after log s placed q ≡ Some t → step_from after log s placed r ≡ Some t
   stepped_for under_way s placed r q t (inl same) e = ap (step_from after log s placed) same ∙ e
   stepped_for under_way s placed r q t (inr for) e =
-      let p = step_parts after s log s placed q t e in
+      let p = step_parts sure after s log s placed q t e in
       ap (λ b. cond b None (made_by after s (slice_get log r))) for.1 ∙ made_for s t r q (slice_get log r) (slice_get log q) for.2 p.1
 
   place_for : (under_way placed : List ℕ) (n r q : ℕ) → slice_get under_way n ≡ Some q → StandsInFor after log under_way placed r q →
@@ -301,15 +332,16 @@ module _ {S W : Type 0} (after : S → W → Option S) (log : List (Operation W)
 
   pub explored_more : (under_way : List ℕ) (ending : ℕ) (s : S) (placed : List ℕ) (n q r : ℕ) → slice_get under_way n ≡ Some q →
       StandsInFor after log under_way placed r q → (waiting kept waiting' kept' waiting'' kept'' : List (Configuration S)) →
-      IsExplored after log under_way ending s placed n waiting kept waiting' kept' →
-      IsTried (step_from after log s placed r) ending placed r waiting' kept' waiting'' kept'' →
-      IsExplored after log under_way ending s placed (n + 1) waiting kept waiting'' kept''
+      IsExplored sure after log under_way ending s placed n waiting kept waiting' kept' →
+      IsTried sure (step_from after log s placed r) ending placed r waiting' kept' waiting'' kept'' →
+      IsExplored sure after log under_way ending s placed (n + 1) waiting kept waiting'' kept''
   explored_more under_way ending s placed n q r at stands waiting kept waiting' kept' waiting'' kept'' yet h = record {
     grown_waiting = λ i one e. f.0 i one (yet.grown_waiting i one e);
     grown_kept = λ i one e. f.1 i one (yet.grown_kept i one e);
-    left_out = λ e. held_grown kept' kept'' s placed f.1 (yet.left_out e);
+    left_out = λ e. held_grown sure kept' kept'' s placed f.1 (yet.left_out e);
     tried = tried;
-    sound = λ opening ended end next way reached lack before. tried_sound after opening log ended under_way ending end next way s placed
+    sound = λ opening ended end next way reached lack before. tried_sound sure after opening log ended under_way ending end next way s
+        placed
         there.0 r there.1 reached lack waiting' kept' waiting'' kept'' (step_from after log s placed r) refl h
         (yet.sound opening ended end next way reached lack before);
   }
@@ -318,25 +350,25 @@ module _ {S W : Type 0} (after : S → W → Option S) (log : List (Operation W)
       there = place_for under_way placed n r q at stands
 
       f : IsGrown waiting' waiting'' × IsGrown kept' kept'' ×
-          ((t : S) → step_from after log s placed r ≡ Some t → IsPutIn (nat_eq r ending) r t placed waiting'' kept'')
-      f = tried_facts (step_from after log s placed r) ending placed r waiting' kept' waiting'' kept'' h
+          ((t : S) → step_from after log s placed r ≡ Some t → IsPutIn sure (nat_eq r ending) r t placed waiting'' kept'')
+      f = tried_facts sure (step_from after log s placed r) ending placed r waiting' kept' waiting'' kept'' h
 
       tried : (j p : ℕ) (t : S) → j < n + 1 → slice_get under_way j ≡ Some p → step_from after log s placed p ≡ Some t →
-          IsIdle after (slice_get log p) ⊎ IsPlacedFor after log under_way ending placed p t waiting'' kept''
+          IsIdle after (slice_get log p) ⊎ IsPlacedFor sure after log under_way ending placed p t waiting'' kept''
       tried j p t l at_p e = elim (cases_lt j n) [
         | inl less ↦ either_grown under_way ending p t placed waiting' kept' waiting'' kept'' f.0 f.1 (yet.tried j p t less at_p e)
         | inr le ↦
             let same : j ≡ n = omega arith in
             let one : q ≡ p = same_Some q p (sym at ∙ (ap (slice_get under_way) (sym same) ∙ at_p)) in
-            let P : ℕ → Type 0 = λ z. IsPlacedFor after log under_way ending placed z t waiting'' kept'' in
+            let P : ℕ → Type 0 = λ z. IsPlacedFor sure after log under_way ending placed z t waiting'' kept'' in
             let step_q : step_from after log s placed q ≡ Some t = ap (step_from after log s placed) one ∙ e in
             inr (subst P one (r, stands, f.2 t (stepped_for under_way s placed r q t stands step_q)))
       ]
 
   pub explored_idle : (under_way : List ℕ) (ending : ℕ) (s : S) (placed : List ℕ) (n q : ℕ) → slice_get under_way n ≡ Some q →
       IsIdle after (slice_get log q) → (waiting kept waiting' kept' : List (Configuration S)) →
-      IsExplored after log under_way ending s placed n waiting kept waiting' kept' →
-      IsExplored after log under_way ending s placed (n + 1) waiting kept waiting' kept'
+      IsExplored sure after log under_way ending s placed n waiting kept waiting' kept' →
+      IsExplored sure after log under_way ending s placed (n + 1) waiting kept waiting' kept'
   explored_idle under_way ending s placed n q at idle waiting kept waiting' kept' yet = record {
     grown_waiting = yet.grown_waiting;
     grown_kept = yet.grown_kept;
@@ -346,7 +378,7 @@ module _ {S W : Type 0} (after : S → W → Option S) (log : List (Operation W)
   }
     where
       tried : (j r : ℕ) (t : S) → j < n + 1 → slice_get under_way j ≡ Some r → step_from after log s placed r ≡ Some t →
-          IsIdle after (slice_get log r) ⊎ IsPlacedFor after log under_way ending placed r t waiting' kept'
+          IsIdle after (slice_get log r) ⊎ IsPlacedFor sure after log under_way ending placed r t waiting' kept'
       tried j r t l there e = elim (cases_lt j n) [
         | inl less ↦ yet.tried j r t less there e
         | inr le ↦
@@ -356,19 +388,19 @@ module _ {S W : Type 0} (after : S → W → Option S) (log : List (Operation W)
       ]
 
   handled_grown : (under_way : List ℕ) (ending : ℕ) (s : S) (placed : List ℕ) (waiting kept waiting' kept' : List (Configuration S)) →
-      IsGrown waiting waiting' → IsGrown kept kept' → IsHandled after log under_way ending s placed waiting kept →
-      IsHandled after log under_way ending s placed waiting' kept'
+      IsGrown waiting waiting' → IsGrown kept kept' → IsHandled sure after log under_way ending s placed waiting kept →
+      IsHandled sure after log under_way ending s placed waiting' kept'
   handled_grown under_way ending s placed waiting kept waiting' kept' w k (Tries h) = Tries (record {
-    left_out = λ e. held_grown kept kept' s placed k (h.left_out e);
+    left_out = λ e. held_grown sure kept kept' s placed k (h.left_out e);
     tried = λ j q t at e. either_grown under_way ending q t placed waiting kept waiting' kept' w k (h.tried j q t at e);
   })
-  handled_grown under_way ending s placed waiting kept waiting' kept' w k (PlacesPure q o t at pure there free step put) =
-      PlacesPure q o t at pure there free step (put_in_grown (nat_eq q ending) q t placed waiting kept waiting' kept' w k put)
+  handled_grown under_way ending s placed waiting kept waiting' kept' w k (PlacesPure q o t at is pure there free step put) =
+      PlacesPure q o t at is pure there free step (put_in_grown sure (nat_eq q ending) q t placed waiting kept waiting' kept' w k put)
 
   -- one configuration is explored: all is tried, or a pure operation is placed
   pub visited_all : (under_way : List ℕ) (ending : ℕ) (s : S) (placed : List ℕ) (waiting kept waiting' kept' : List (Configuration S)) →
-      IsExplored after log under_way ending s placed (length under_way) waiting kept waiting' kept' →
-      IsVisited after log under_way ending s placed waiting kept waiting' kept'
+      IsExplored sure after log under_way ending s placed (length under_way) waiting kept waiting' kept' →
+      IsVisited sure after log under_way ending s placed waiting kept waiting' kept'
   visited_all under_way ending s placed waiting kept waiting' kept' h = record {
     grown_waiting = h.grown_waiting;
     grown_kept = h.grown_kept;
@@ -379,33 +411,33 @@ module _ {S W : Type 0} (after : S → W → Option S) (log : List (Operation W)
     sound = h.sound;
   }
 
-  pub visited_pure : (under_way : List ℕ) (ending : ℕ) (s : S) (placed : List ℕ) (q : ℕ) →
+  pub visited_pure : (under_way : List ℕ) (ending : ℕ) (s : S) (placed : List ℕ) (q : ℕ) → sure q ≡ true →
       IsPureNext after log under_way s placed q → (waiting kept waiting' kept' : List (Configuration S)) →
-      IsTried (step_from after log s placed q) ending placed q waiting kept waiting' kept' →
-      IsVisited after log under_way ending s placed waiting kept waiting' kept'
-  visited_pure under_way ending s placed q next waiting kept waiting' kept' h = record {
+      IsTried sure (step_from after log s placed q) ending placed q waiting kept waiting' kept' →
+      IsVisited sure after log under_way ending s placed waiting kept waiting' kept'
+  visited_pure under_way ending s placed q is next waiting kept waiting' kept' h = record {
     grown_waiting = f.0;
     grown_kept = f.1;
-    handled = PlacesPure q m.0 next.1 m.1 sure.1 (is_in_at under_way next.0 q next.2) p.0 m.2 (f.2 next.1 next.4);
-    sound = λ opening ended end next_end way r lack. tried_sound after opening log ended under_way ending end next_end way s placed
+    handled = PlacesPure q m.0 next.1 m.1 is pure.1 (is_in_at under_way next.0 q next.2) p.0 m.2 (f.2 next.1 next.4);
+    sound = λ opening ended end next_end way r lack. tried_sound sure after opening log ended under_way ending end next_end way s placed
         next.0 q next.2 r lack waiting kept waiting' kept' (step_from after log s placed q) refl h;
   }
     where
       f : IsGrown waiting waiting' × IsGrown kept kept' ×
-          ((t : S) → step_from after log s placed q ≡ Some t → IsPutIn (nat_eq q ending) q t placed waiting' kept')
-      f = tried_facts (step_from after log s placed q) ending placed q waiting kept waiting' kept' h
+          ((t : S) → step_from after log s placed q ≡ Some t → IsPutIn sure (nat_eq q ending) q t placed waiting' kept')
+      f = tried_facts sure (step_from after log s placed q) ending placed q waiting kept waiting' kept' h
 
       p : (is_in q placed ≡ false) × (made_by after s (slice_get log q) ≡ Some next.1)
-      p = step_parts after s log s placed q next.1 next.4
+      p = step_parts sure after s log s placed q next.1 next.4
 
       m : (o : Operation W) × (slice_get log q ≡ Some o) × (after s o.what ≡ Some next.1)
-      m = made_parts after s log s (slice_get log q) next.1 p.1
+      m = made_parts sure after s log s (slice_get log q) next.1 p.1
 
-      sure : IsSureAndPure after (Some m.0)
-      sure = subst (λ (z : Option (Operation W)). IsSureAndPure after z) m.1 next.3
+      pure : IsSureAndPure after (Some m.0)
+      pure = subst (λ (z : Option (Operation W)). IsSureAndPure after z) m.1 next.3
 
   pub explored_first : (under_way : List ℕ) (ending : ℕ) (waiting kept : List (Configuration S)) →
-      AreExplored after log under_way ending 0 waiting kept waiting kept
+      AreExplored sure after log under_way ending 0 waiting kept waiting kept
   explored_first under_way ending waiting kept = record {
     grown_waiting = λ i one e. e;
     grown_kept = λ i one e. e;
@@ -415,27 +447,27 @@ module _ {S W : Type 0} (after : S → W → Option S) (log : List (Operation W)
 
   pub explored_next : (under_way : List ℕ) (ending n : ℕ) (from : Configuration S)
       (waiting kept waiting' kept' waiting'' kept'' : List (Configuration S)) →
-      AreExplored after log under_way ending n waiting kept waiting' kept' → IsCopyAt waiting' n from →
-      IsVisited after log under_way ending from.state from.placed.items waiting' kept' waiting'' kept'' →
-      AreExplored after log under_way ending (n + 1) waiting kept waiting'' kept''
+      AreExplored sure after log under_way ending n waiting kept waiting' kept' → IsCopyAt waiting' n from →
+      IsVisited sure after log under_way ending from.state from.placed.items waiting' kept' waiting'' kept'' →
+      AreExplored sure after log under_way ending (n + 1) waiting kept waiting'' kept''
   explored_next under_way ending n from waiting kept waiting' kept' waiting'' kept'' yet copy h = record {
     grown_waiting = λ i one e. h.grown_waiting i one (yet.grown_waiting i one e);
     grown_kept = λ i one e. h.grown_kept i one (yet.grown_kept i one e);
     handled = handled;
     sound = λ opening ended end next way before.
         let now = yet.sound opening ended end next way before in
-        h.sound opening ended end next way (reached_of after opening log ended from copy.0.state copy.0.placed.items copy.2
+        h.sound opening ended end next way (reached_of sure after opening log ended from copy.0.state copy.0.placed.items copy.2
         (now.reached_waiting n copy.0 copy.1)) (ap (is_in ending) copy.2.1 ∙ now.lacking n copy.0 copy.1) now;
   }
     where
-      there : IsHandled after log under_way ending copy.0.state copy.0.placed.items waiting'' kept''
+      there : IsHandled sure after log under_way ending copy.0.state copy.0.placed.items waiting'' kept''
       there =
-          let P : S → Type 0 = λ z. IsHandled after log under_way ending z copy.0.placed.items waiting'' kept'' in
-          let Q : List ℕ → Type 0 = λ z. IsHandled after log under_way ending from.state z waiting'' kept'' in
+          let P : S → Type 0 = λ z. IsHandled sure after log under_way ending z copy.0.placed.items waiting'' kept'' in
+          let Q : List ℕ → Type 0 = λ z. IsHandled sure after log under_way ending from.state z waiting'' kept'' in
           subst P copy.2.0 (subst Q copy.2.1 h.handled)
 
       handled : (i : ℕ) (one : Configuration S) → i < n + 1 → slice_get waiting'' i ≡ Some one →
-          IsHandled after log under_way ending one.state one.placed.items waiting'' kept''
+          IsHandled sure after log under_way ending one.state one.placed.items waiting'' kept''
       handled i one l at = elim (cases_lt i n) [
         | inl less ↦
             let m : n < length waiting' = slice_get_within waiting' n copy.0 copy.1 in
@@ -449,14 +481,14 @@ module _ {S W : Type 0} (after : S → W → Option S) (log : List (Operation W)
             let same : i ≡ n = omega arith in
             let e : copy.0 ≡ one = same_Some copy.0 one (sym (h.grown_waiting n copy.0 copy.1) ∙ (ap (slice_get waiting'') (sym same)
             ∙ at)) in
-            let P : Configuration S → Type 0 = λ z. IsHandled after log under_way ending z.state z.placed.items waiting'' kept'' in
+            let P : Configuration S → Type 0 = λ z. IsHandled sure after log under_way ending z.state z.placed.items waiting'' kept'' in
             subst P e there
       ]
 
   -- as many are explored as wait
   pub closed : (under_way : List ℕ) (ending budget n : ℕ) (waiting kept waiting' kept' : List (Configuration S)) →
-      AreExplored after log under_way ending n waiting kept waiting' kept' → length waiting' ≤ n → (b : Bool) →
-      (b ≡ false → budget < length kept') → IsClosed after log under_way ending budget waiting kept waiting' kept' b
+      AreExplored sure after log under_way ending n waiting kept waiting' kept' → length waiting' ≤ n → (b : Bool) →
+      (b ≡ false → budget < length kept') → IsClosed sure after log under_way ending budget waiting kept waiting' kept' b
   closed under_way ending budget n waiting kept waiting' kept' h few true many = record {
     grown_waiting = h.grown_waiting;
     grown_kept = h.grown_kept;
@@ -465,7 +497,7 @@ module _ {S W : Type 0} (after : S → W → Option S) (log : List (Operation W)
   }
   closed under_way ending budget n waiting kept waiting' kept' h few false many = (n, h, inr (many refl))
 
-  pub started_none : (ending : ℕ) (configurations : List (Configuration S)) → AreStarted after log ending 0 configurations [] []
+  pub started_none : (ending : ℕ) (configurations : List (Configuration S)) → AreStarted sure after log ending 0 configurations [] []
   started_none ending configurations = record {
     held = λ i one l. absurd (omega arith);
     sound = λ opening ended end next reached. record {
@@ -478,8 +510,8 @@ module _ {S W : Type 0} (after : S → W → Option S) (log : List (Operation W)
   }
 
   sorted_facts : (b : Bool) (ending : ℕ) (s : S) (placed : List ℕ) (waiting kept waiting' kept' : List (Configuration S)) →
-      IsSorted b ending s placed waiting kept waiting' kept' → IsGrown waiting waiting' × IsGrown kept kept' ×
-      (b ≡ true → IsHeld kept' s (without ending placed)) × (b ≡ false → IsHeld waiting' s placed)
+      IsSorted sure b ending s placed waiting kept waiting' kept' → IsGrown waiting waiting' × IsGrown kept kept' ×
+      (b ≡ true → IsCovered sure kept' s (without ending placed)) × (b ≡ false → IsCovered sure waiting' s placed)
   sorted_facts true ending s placed waiting kept waiting' kept' h =
       (same_grown waiting waiting' h.0, h.1.grown, λ e. h.1.held, λ e. cc)
   sorted_facts false ending s placed waiting kept waiting' kept' h =
@@ -487,42 +519,44 @@ module _ {S W : Type 0} (after : S → W → Option S) (log : List (Operation W)
 
   pub started_more : (ending n : ℕ) (configurations : List (Configuration S)) (one : Configuration S) →
       slice_get configurations n ≡ Some one → (waiting kept waiting' kept' : List (Configuration S)) →
-      AreStarted after log ending n configurations waiting kept →
-      IsSorted (is_in ending one.placed.items) ending one.state one.placed.items waiting kept waiting' kept' →
-      AreStarted after log ending (n + 1) configurations waiting' kept'
+      AreStarted sure after log ending n configurations waiting kept →
+      IsSorted sure (is_in ending one.placed.items) ending one.state one.placed.items waiting kept waiting' kept' →
+      AreStarted sure after log ending (n + 1) configurations waiting' kept'
   started_more ending n configurations one at waiting kept waiting' kept' yet h = record {
     held = held;
-    sound = λ opening ended end next reached. sorted_sound after opening log ended ending end next one.state one.placed.items
+    sound = λ opening ended end next reached. sorted_sound sure after opening log ended ending end next one.state one.placed.items
         (reached n one at) waiting kept waiting' kept' (is_in ending one.placed.items) refl h (yet.sound opening ended end next reached);
   }
     where
       f : IsGrown waiting waiting' × IsGrown kept kept' ×
-          (is_in ending one.placed.items ≡ true → IsHeld kept' one.state (without ending one.placed.items)) ×
-          (is_in ending one.placed.items ≡ false → IsHeld waiting' one.state one.placed.items)
+          (is_in ending one.placed.items ≡ true → IsCovered sure kept' one.state (without ending one.placed.items)) ×
+          (is_in ending one.placed.items ≡ false → IsCovered sure waiting' one.state one.placed.items)
       f = sorted_facts (is_in ending one.placed.items) ending one.state one.placed.items waiting kept waiting' kept' h
 
       held : (i : ℕ) (other : Configuration S) → i < n + 1 → slice_get configurations i ≡ Some other →
-          (is_in ending other.placed.items ≡ true → IsHeld kept' other.state (without ending other.placed.items)) ×
-          (is_in ending other.placed.items ≡ false → IsHeld waiting' other.state other.placed.items)
+          (is_in ending other.placed.items ≡ true → IsCovered sure kept' other.state (without ending other.placed.items)) ×
+          (is_in ending other.placed.items ≡ false → IsCovered sure waiting' other.state other.placed.items)
       held i other l there = elim (cases_lt i n) [
         | inl less ↦ (
           λ e.
-              held_grown kept kept' other.state (without ending other.placed.items) f.1 ((yet.held i other less there).0 e),
+              held_grown sure kept kept' other.state (without ending other.placed.items) f.1 ((yet.held i other less there).0 e),
           λ e.
-              held_grown waiting waiting' other.state other.placed.items f.0 ((yet.held i other less there).1 e),
+              held_grown sure waiting waiting' other.state other.placed.items f.0 ((yet.held i other less there).1 e),
         )
         | inr le ↦
             let same : i ≡ n = omega arith in
             let e : one ≡ other = same_Some one other (sym at ∙ (ap (slice_get configurations) (sym same) ∙ there)) in
             let P : Configuration S → Type 0 = λ z.
-            (is_in ending z.placed.items ≡ true → IsHeld kept' z.state (without ending z.placed.items)) ×
-            (is_in ending z.placed.items ≡ false → IsHeld waiting' z.state z.placed.items) in
+            (is_in ending z.placed.items ≡ true → IsCovered sure kept' z.state (without ending z.placed.items)) ×
+            (is_in ending z.placed.items ≡ false → IsCovered sure waiting' z.state z.placed.items) in
             subst P e (f.2, f.3)
       ]
 
+-- behind an end, where what is sure is so by the log
+module _ {S W : Type 0} (after : S → W → Option S) (log : List (Operation W)) where
   pub passed : (under_way : List ℕ) (ending : ℕ) (configurations first first' waiting kept : List (Configuration S)) →
-      AreStarted after log ending (length configurations) configurations first first' →
-      AreExplored after log under_way ending (length waiting) first first' waiting kept →
+      AreStarted (sure_at log) after log ending (length configurations) configurations first first' →
+      AreExplored (sure_at log) after log under_way ending (length waiting) first first' waiting kept →
       IsPassed after log under_way ending configurations kept
   passed under_way ending configurations first first' waiting kept started explored = record {
     reached = λ opening ended end next way reached. (explored.sound opening ended end next way (started.sound opening ended end next
@@ -536,30 +570,56 @@ module _ {S W : Type 0} (after : S → W → Option S) (log : List (Operation W)
           AnyCanFinish after cut ended configurations → AnyCanFinish after cut (ending ∷ ended) kept
       complete opening ended end forwards next way reached cut is ends any = by_in (cases_Bool (is_in ending any.1.placed.items))
         where
-          start : (is_in ending any.1.placed.items ≡ true → IsHeld first' any.1.state (without ending any.1.placed.items)) ×
-              (is_in ending any.1.placed.items ≡ false → IsHeld first any.1.state any.1.placed.items)
+          unsure : (q : ℕ) (o : Operation W) → slice_get cut q ≡ Some o → sure_at log q ≡ false → is_due o ≡ false
+          unsure = cut_unsure log cut is
+
+          start : (is_in ending any.1.placed.items ≡ true →
+              IsCovered (sure_at log) first' any.1.state (without ending any.1.placed.items)) ×
+              (is_in ending any.1.placed.items ≡ false → IsCovered (sure_at log) first any.1.state any.1.placed.items)
           start = started.held any.0 any.1 (slice_get_within configurations any.0 any.1 any.2) any.2
 
           by_in : (is_in ending any.1.placed.items ≡ true) ⊎ (is_in ending any.1.placed.items ≡ false) →
               AnyCanFinish after cut (ending ∷ ended) kept
           by_in (inl e) =
-              held_finish after cut (ending ∷ ended) kept any.1.state (without ending any.1.placed.items)
-              (held_grown first' kept any.1.state (without ending any.1.placed.items) explored.grown_kept (start.0 e))
+              covered_finish after cut (sure_at log) unsure (ending ∷ ended) kept any.1.state (without ending any.1.placed.items)
+              (held_grown (sure_at log) first' kept any.1.state (without ending any.1.placed.items) explored.grown_kept (start.0 e))
               (same_finish after cut (is_closed ended any.1.placed.items) (is_closed (ending ∷ ended) (without ending any.1.placed.items))
               (λ z. sym (closed_behind ended any.1.placed.items ending z e)) any.1.state any.3)
           by_in (inr e) =
               let snd = explored.sound opening ended end next way (started.sound opening ended end next reached) in
-              let w = held_grown first waiting any.1.state any.1.placed.items explored.grown_waiting (start.1 e) in
-              let r = same_rests after cut ended w.1 any.1.state any.1.placed.items w.3 any.3.0 any.3.1 in
-              finished after cut (cut_forwards log cut is forwards) ended ending end (cut_next log cut is ended ending end next ends)
+              let w = held_grown (sure_at log) first waiting any.1.state any.1.placed.items explored.grown_waiting (start.1 e) in
+              let r = covered_rests after cut (sure_at log) unsure ended w.1 any.1.state any.1.placed.items w.3 any.3.0 any.3.1 in
+              finished after cut (sure_at log) unsure (cut_forwards log cut is forwards) ended ending end (cut_next log cut is ended ending
+              end next ends)
               under_way (cut_way log cut is under_way ended end way) waiting kept snd.lacking
-              (λ i one at. cut_handled log cut is after under_way ending one.state one.placed.items waiting kept
-              (explored.handled i one (slice_get_within waiting i one at) at)) (length any.3.0 + lacking_of under_way w.1.placed.items)
+              (λ i one at. cut_handled log cut is after (sure_at log) under_way ending one.state one.placed.items waiting kept
+              (explored.handled i one (slice_get_within waiting i one at) at)) (length any.3.0 + lacking_of (sure_at log) under_way
+              w.1.placed.items)
               w.0 w.1 w.2 any.3.0 r (omega arith)
 
+  -- in another sequence they are the same
+  pub passed_in_order : (under_way : List ℕ) (ending : ℕ) (configurations kept kept' : List (Configuration S)) → IsPermutation kept kept' →
+      IsPassed after log under_way ending configurations kept → IsPassed after log under_way ending configurations kept'
+  passed_in_order under_way ending configurations kept kept' same h = record {
+    reached = λ opening ended end next way reached i one at.
+        let m = moved kept' kept (IsPermutation-sym kept kept' same) i one at in
+        h.reached opening ended end next way reached m.0 one m.1;
+    complete = λ opening ended end forwards next way reached cut is ends any.
+        let w = h.complete opening ended end forwards next way reached cut is ends any in
+        let m = moved kept kept' same w.0 w.1 w.2 in (m.0, w.1, m.1, w.3);
+  }
+    where
+      moved : (old new : List (Configuration S)) → IsPermutation old new → (i : ℕ) (one : Configuration S) →
+          slice_get old i ≡ Some one → (j : ℕ) × (slice_get new j ≡ Some one)
+      moved old new p i one at =
+          let there = slice_get_within old i one at in
+          let c = Contains-permutation old new one p (i, there, get_or_from_slice_get old i one one at) in
+          (c.0, slice_get-get_or new c.0 one c.1 ∙ ap Some c.2)
+
   pub too_many : (under_way : List ℕ) (ending budget n : ℕ) (configurations first first' waiting kept : List (Configuration S)) →
-      AreStarted after log ending (length configurations) configurations first first' →
-      AreExplored after log under_way ending n first first' waiting kept → (budget < length waiting) ⊎ (budget < length kept) →
+      AreStarted (sure_at log) after log ending (length configurations) configurations first first' →
+      AreExplored (sure_at log) after log under_way ending n first first' waiting kept →
+      (budget < length waiting) ⊎ (budget < length kept) →
       (opening : S) (ended : List ℕ) (end : ℕ) → IsNextEnd log ended ending end → AreUnderWay log under_way ended end →
       AreReachable after opening log ended configurations → AreTooMany after opening log budget ending
   too_many under_way ending budget n configurations first first' waiting kept started explored more opening ended end next way reached =

@@ -10,6 +10,7 @@ use Rattle.object_sweep.specs.Cuts.{cut_log, without_end}
 use Rattle.object_sweep.specs.inner.Cuts.{EndsAt, IsLogCut, IsCutOf, KeepsEnds}
 use Rattle.object_sweep.specs.inner.Steps.{AreUnderWay, EndsFirst, IsHandled, IsIdle, IsPlacedFor, IsPure, made_by}
 use Rattle.object_sweep.specs.inner.Steps.{may_be_left_out, maybe_of, MayStandFor, step_from}
+use Rattle.object_sweep.specs.inner.Steps.{is_sure, sure_at}
 use Rattle.object_sweep.specs.inner.Steps.IsHandled.{Tries, Places as PlacesPure}
 use Rattle.object_sweep.specs.Reached.{is_in, IsNextEnd, IsReachable, MayBeLeftOut}
 use Rattle.object_sweep.specs.Reached.IsReachable.{Opens, Places, Ends}
@@ -89,6 +90,9 @@ module _ {W : Type 0} (log cut : List (Operation W)) (is : IsLogCut log cut) whe
       by_due false e = refl
       by_due true e = let d = due_before o c of e in cc
 
+  pub cut_unsure : (q : ℕ) (c : Operation W) → slice_get cut q ≡ Some c → sure_at log q ≡ false → is_due c ≡ false
+  cut_unsure q c at unsure = let o = is.from q c at in not_due o.0 c o.2 (ap is_sure (sym o.1) ∙ unsure)
+
   module _ {S : Type 0} (after : S → W → Option S) where
     cut_pure : (o c : Operation W) → IsCutOf o c → IsPure after o → IsPure after c
     cut_pure o c of pure s t e = pure s t (ap (after s) (sym of.what) ∙ e)
@@ -166,11 +170,12 @@ module _ {W : Type 0} (log cut : List (Operation W)) (is : IsLogCut log cut) whe
             let f = is.each p a pa in let none : None ≡ Some f.0 = sym pc ∙ f.1 in cc
         by_ops (Some a) (Some b) (Some c) (Some d) pa qb pc qd e h = cut_in_place p q a b c d pa qb pc qd h
 
-    cut_placed : (under_way : List ℕ) (ending : ℕ) (placed : List ℕ) (q : ℕ) (t s : S) (waiting kept : List (Configuration S)) →
-        made_by after s (slice_get cut q) ≡ Some t → IsPlacedFor after log under_way ending placed q t waiting kept →
-        IsPlacedFor after cut under_way ending placed q t waiting kept
-    cut_placed under_way ending placed q t s waiting kept made (r, inl same, put) = (r, inl same, put)
-    cut_placed under_way ending placed q t s waiting kept made (r, inr for, put) =
+    cut_placed : (sure : ℕ → Bool) (under_way : List ℕ) (ending : ℕ) (placed : List ℕ) (q : ℕ) (t s : S) (waiting kept : List
+        (Configuration S)) →
+        made_by after s (slice_get cut q) ≡ Some t → IsPlacedFor sure after log under_way ending placed q t waiting kept →
+        IsPlacedFor sure after cut under_way ending placed q t waiting kept
+    cut_placed sure under_way ending placed q t s waiting kept made (r, inl same, put) = (r, inl same, put)
+    cut_placed sure under_way ending placed q t s waiting kept made (r, inr for, put) =
         (r, inr (for.0, for.1, cut_may r q t s made for.2), put)
 
     cut_out : (q : ℕ) → may_be_left_out cut q ≡ true → may_be_left_out log q ≡ true
@@ -188,22 +193,23 @@ module _ {W : Type 0} (log cut : List (Operation W)) (is : IsLogCut log cut) whe
         by_in true f = cc
         by_in false f = f
 
-    pub cut_handled : (under_way : List ℕ) (ending : ℕ) (s : S) (placed : List ℕ) (waiting kept : List (Configuration S)) →
-        IsHandled after log under_way ending s placed waiting kept → IsHandled after cut under_way ending s placed waiting kept
-    cut_handled under_way ending s placed waiting kept (Tries h) = Tries (record {
+    pub cut_handled : (sure : ℕ → Bool) (under_way : List ℕ) (ending : ℕ) (s : S) (placed : List ℕ) (waiting kept : List (Configuration S))
+        →
+        IsHandled sure after log under_way ending s placed waiting kept → IsHandled sure after cut under_way ending s placed waiting kept
+    cut_handled sure under_way ending s placed waiting kept (Tries h) = Tries (record {
       left_out = λ e. h.left_out (cut_out ending e);
       tried = tried;
     })
       where
         tried : (j q : ℕ) (t : S) → slice_get under_way j ≡ Some q → step_from after cut s placed q ≡ Some t →
-            IsIdle after (slice_get cut q) ⊎ IsPlacedFor after cut under_way ending placed q t waiting kept
+            IsIdle after (slice_get cut q) ⊎ IsPlacedFor sure after cut under_way ending placed q t waiting kept
         tried j q t at e = elim (h.tried j q t at (cut_step s placed q t e)) [
           | inl idle ↦ inl (cut_idle q t s (made_of s placed q t e) idle)
-          | inr p ↦ inr (cut_placed under_way ending placed q t s waiting kept (made_of s placed q t e) p)
+          | inr p ↦ inr (cut_placed sure under_way ending placed q t s waiting kept (made_of s placed q t e) p)
         ]
-    cut_handled under_way ending s placed waiting kept (PlacesPure q o t at pure there free step put) =
+    cut_handled sure under_way ending s placed waiting kept (PlacesPure q o t at due pure there free step put) =
         let c = is.each q o at in
-        PlacesPure q c.0 t c.1 (cut_pure o c.0 c.2 pure) there free (ap (after s) c.2.what ∙ step) put
+        PlacesPure q c.0 t c.1 due (cut_pure o c.0 c.2 pure) there free (ap (after s) c.2.what ∙ step) put
 
     -- what is reached before an end is reached there, where what has ended by then has its end
     pub cut_reached : (opening : S) {ended : List ℕ} {s : S} {placed : List ℕ} → IsReachable after opening log ended s placed →

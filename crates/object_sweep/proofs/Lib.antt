@@ -4,7 +4,9 @@ pub mod Pure
 pub mod InPlace
 pub mod Whole
 pub mod Lists
+pub mod Marks
 pub mod Lacking
+pub mod Covering
 pub mod Cuts
 pub mod Exact
 pub mod Adding

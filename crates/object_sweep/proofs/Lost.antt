@@ -1,13 +1,13 @@
 -- Where a log is lost, the log so far has no lawful order: each end is passed by what begins one.
-use Rattle.std.proofs.Common.{◌≡◌, ℕ, ◌<◌, ◌≤◌, Bool, true, false, ◌||◌, nat_eq, List, [], ◌∷◌, ◌++◌, slice_get}
-use Rattle.std.proofs.Common.{Option, Some, refl, sym, ◌∙◌, ap, subst, arith, ◌⊎◌, inl, inr}
-use Rattle.std.proofs.lemmas.Bool.{cases_Bool, cases_lt, or_parts}
+use Rattle.std.proofs.Common.{◌≡◌, ℕ, ◌<◌, ◌≤◌, Bool, true, false, ◌||◌, nat_eq, List, [], ◌∷◌, ◌++◌}
+use Rattle.std.proofs.Common.{Option, Some, refl, sym, ◌∙◌, ap, arith, inl, inr}
+use Rattle.std.proofs.lemmas.Bool.{cases_Bool, cases_lt}
 use Rattle.history_core.specs.Orders.{times_of}
 use Rattle.object_core.specs.declared.operation.Operation.{Operation}
 use Rattle.object_core.specs.Logs.{IsLinearizable}
 use Rattle.object_sweep.specs.Cuts.{cut_log}
 use Rattle.object_sweep.specs.inner.Cuts.{EndsAt}
-use Rattle.object_sweep.specs.Reached.{is_closed, is_in, IsLostAt, IsNextEnd, IsReachable, MayBeLeftOut, without}
+use Rattle.object_sweep.specs.Reached.{is_closed, is_in, IsLostAt, IsNextEnd, IsReachable, without}
 use Rattle.object_sweep.specs.Reached.IsReachable.{Opens, Places, Ends}
 use Rattle.object_sweep.specs.Rests.{CanFinish, CanPlace, IsRest, RunForwards}
 use Rattle.object_sweep.proofs.Cuts.{get_from, is_cut_of, keeps_ends, so_far}

@@ -2,15 +2,17 @@
 
 ghost use Rattle.std.specs.Prelude.{◌≡◌, ℕ, ◌<◌, ◌≤◌, List, nat_eq, length, slice_get, false, Some, IfNone, IfOk};
 ghost use Rattle.std.specs.Prelude.{IfSome, IsTrue, OnOk};
+ghost use Rattle.std.specs.List.Sorted.{IsPermutation};
 ghost use Rattle.object_core.specs.declared.operation.Operation.{Operation};
 ghost use Rattle.object_sweep.specs.Reached.{is_in};
 ghost use Rattle.object_sweep.specs.inner.Ends.{AreAlwaysTooMany};
 ghost use Rattle.object_sweep.specs.inner.Steps.{AreStarted, IsClosed, IsCopyAt, IsExplored, EndsFirst, IsIdle};
 ghost use Rattle.object_sweep.specs.inner.Steps.{IsLeftOut, IsPassed, IsPureNext, IsPut, IsSorted, IsSureAndPure};
 ghost use Rattle.object_sweep.specs.inner.Steps.{IsInPlaceOf, IsTried, IsVisited, may_be_left_out};
-ghost use Rattle.object_sweep.specs.inner.Steps.{MayStandFor, StandsInFor, step_from};
+ghost use Rattle.object_sweep.specs.inner.Steps.{MayStandFor, StandsInFor, step_from, sure_at};
 
-use crate::configuration::{Configuration, add};
+use crate::configuration::Configuration;
+use crate::held::add;
 use crate::places::{is_in, with, without};
 use object_core::{Object, Operation};
 use std::alloc::{AllocError, Global};
@@ -55,21 +57,22 @@ fn may_be_left_out<W>(log: &[Operation<W>], place: usize) -> bool
 /// Adds the configuration after one more operation: it waits, unless that is the one that ends.
 fn put<O: Object>(
     alloc: Global,
+    log: &[Operation<O::What>],
     ending: usize,
     placed: &[usize],
     place: usize,
     state: O,
     sets: &mut Ending<O>,
 ) -> Result<(), AllocError>
-    ensures { OnOk result (IsPut (nat_eq place ending) place state placed.now sets.old.waiting.items sets.old.kept.items
-        sets.new.waiting.items sets.new.kept.items) }
+    ensures { OnOk result (IsPut (sure_at log.now) (nat_eq place ending) place state placed.now
+        sets.old.waiting.items sets.old.kept.items sets.new.waiting.items sets.new.kept.items) }
 {
     if place == ending {
         let behind = Vec::from_slice(alloc, placed)?;
-        add(&mut sets.kept, state, behind)
+        add(log, &mut sets.kept, state, behind)
     } else {
         let more = with(alloc, placed, place)?;
-        add(&mut sets.waiting, state, more)
+        add(log, &mut sets.waiting, state, more)
     }
 }
 
@@ -82,12 +85,19 @@ fn try_place<O: Object>(
     place: usize,
     sets: &mut Ending<O>,
 ) -> Result<(), AllocError>
-    ensures { OnOk result (IsTried (step_from O.after log.now from.now.state from.now.placed.items place) ending
-        from.now.placed.items place
-        sets.old.waiting.items sets.old.kept.items sets.new.waiting.items sets.new.kept.items) }
+    ensures { OnOk result (IsTried (sure_at log.now) (step_from O.after log.now from.now.state from.now.placed.items place)
+        ending from.now.placed.items place sets.old.waiting.items sets.old.kept.items sets.new.waiting.items sets.new.kept.items) }
 {
     match step_from(log, from.state, from.placed.as_slice(), place) {
-        Some(state) => put(alloc, ending, from.placed.as_slice(), place, state, sets),
+        Some(state) => put(
+            alloc,
+            log,
+            ending,
+            from.placed.as_slice(),
+            place,
+            state,
+            sets,
+        ),
         None => Ok(()),
     }
 }
@@ -100,15 +110,15 @@ fn leave_out<O: Object>(
     from: &Configuration<O>,
     sets: &mut Ending<O>,
 ) -> Result<(), AllocError>
-    ensures { OnOk result (IsLeftOut (may_be_left_out log.now ending) from.now.state from.now.placed.items
-        sets.old.waiting.items sets.old.kept.items
+    ensures { OnOk result (IsLeftOut (sure_at log.now) (may_be_left_out log.now ending) from.now.state
+        from.now.placed.items sets.old.waiting.items sets.old.kept.items
         sets.new.waiting.items sets.new.kept.items) }
 {
     if !may_be_left_out(log, ending) {
         return Ok(());
     }
     let behind = Vec::from_slice(alloc, from.placed.as_slice())?;
-    add(&mut sets.kept, from.state, behind)
+    add(log, &mut sets.kept, from.state, behind)
 }
 
 /// Whether an operation may have had no effect, and else leaves every state as it is. It need not be placed.
@@ -172,12 +182,12 @@ fn is_sooner<O: Object>(
     ensures { IsTrue result → (is_in one placed.now ≡ false)
         × MayStandFor O.after one place (slice_get log.now one) (slice_get log.now place) }
 {
-    !is_in(one, placed)
+    may_stand_for::<O>(log, one, place)
         && may_stand_for::<O>(log, one, first)
-        && may_stand_for::<O>(log, one, place)
+        && !is_in(one, placed)
 }
 
-/// Which operation is placed for this one: of those that may be, one that ends first.
+/// Which operation is placed for this one, if it isn't placed: of those that may be, one that ends first.
 fn first_for<O: Object>(
     log: &[Operation<O::What>],
     under_way: &[usize],
@@ -187,6 +197,9 @@ fn first_for<O: Object>(
     ensures { StandsInFor O.after log.now under_way.now placed.now result place }
 {
     let mut first = place;
+    if is_in(first, placed) {
+        return first;
+    }
     for other in under_way {
         if is_sooner::<O>(log, placed, *other, first, place) {
             first = *other;
@@ -204,8 +217,8 @@ fn explore<O: Object>(
     from: &Configuration<O>,
     sets: &mut Ending<O>,
 ) -> Result<(), AllocError>
-    ensures { OnOk result (IsExplored O.after log.now under_way.now ending from.now.state from.now.placed.items (length
-        under_way.now)
+    ensures { OnOk result (IsExplored (sure_at log.now) O.after log.now under_way.now ending from.now.state
+        from.now.placed.items (length under_way.now)
         sets.old.waiting.items sets.old.kept.items sets.new.waiting.items sets.new.kept.items) }
 {
     leave_out(alloc, log, ending, from, sets)?;
@@ -256,8 +269,8 @@ fn visit<O: Object>(
     from: &Configuration<O>,
     sets: &mut Ending<O>,
 ) -> Result<(), AllocError>
-    ensures { OnOk result (IsVisited O.after log.now under_way.now ending from.now.state from.now.placed.items
-        sets.old.waiting.items sets.old.kept.items sets.new.waiting.items sets.new.kept.items) }
+    ensures { OnOk result (IsVisited (sure_at log.now) O.after log.now under_way.now ending from.now.state
+        from.now.placed.items sets.old.waiting.items sets.old.kept.items sets.new.waiting.items sets.new.kept.items) }
 {
     match pure_next(log, under_way, from) {
         Some(place) => try_place(alloc, log, ending, from, place, sets),
@@ -275,10 +288,8 @@ fn copied<O: Object>(
     ensures { IfOk result (IsCopyAt held.now place) }
 {
     let one = &held[place];
-    Ok(Configuration {
-        state: one.state,
-        placed: Vec::from_slice(alloc, one.placed.as_slice())?,
-    })
+    let placed = Vec::from_slice(alloc, one.placed.as_slice())?;
+    Ok(Configuration::new(one.state, placed))
 }
 
 /// Explores what waits until that leads to nothing new; false where more are held than the budget.
@@ -290,7 +301,7 @@ fn close<O: Object>(
     budget: usize,
     sets: &mut Ending<O>,
 ) -> Result<bool, AllocError>
-    ensures { IfOk result (IsClosed O.after log.now under_way.now ending budget
+    ensures { IfOk result (IsClosed (sure_at log.now) O.after log.now under_way.now ending budget
         sets.old.waiting.items sets.old.kept.items sets.new.waiting.items sets.new.kept.items) }
 {
     let mut next: usize = 0;
@@ -308,30 +319,31 @@ fn close<O: Object>(
 /// Sorts one of the configurations at hand by whether it has placed the operation that ends.
 fn sort<O: Object>(
     alloc: Global,
+    log: &[Operation<O::What>],
     ending: usize,
     one: &Configuration<O>,
     sets: &mut Ending<O>,
 ) -> Result<(), AllocError>
-    ensures { OnOk result (IsSorted (is_in ending one.now.placed.items) ending one.now.state one.now.placed.items
-        sets.old.waiting.items sets.old.kept.items sets.new.waiting.items sets.new.kept.items) }
+    ensures { OnOk result (IsSorted (sure_at log.now) (is_in ending one.now.placed.items) ending one.now.state
+        one.now.placed.items sets.old.waiting.items sets.old.kept.items sets.new.waiting.items sets.new.kept.items) }
 {
     if is_in(ending, one.placed.as_slice()) {
         let behind = without(alloc, ending, one.placed.as_slice())?;
-        add(&mut sets.kept, one.state, behind)
+        add(log, &mut sets.kept, one.state, behind)
     } else {
         let placed = Vec::from_slice(alloc, one.placed.as_slice())?;
-        add(&mut sets.waiting, one.state, placed)
+        add(log, &mut sets.waiting, one.state, placed)
     }
 }
 
 /// The configurations as an end begins.
 fn start<O: Object>(
     alloc: Global,
+    log: &[Operation<O::What>],
     ending: usize,
     configurations: &[Configuration<O>],
 ) -> Result<Ending<O>, AllocError>
-    ensures { IfOk result (λ sets. (log : List (Operation O.What)) →
-        AreStarted O.after log ending (length configurations.now)
+    ensures { IfOk result (λ sets. AreStarted (sure_at log.now) O.after log.now ending (length configurations.now)
         configurations.now sets.waiting.items sets.kept.items) }
 {
     let mut sets = Ending {
@@ -339,9 +351,18 @@ fn start<O: Object>(
         kept: Vec::new(alloc),
     };
     for one in configurations {
-        sort(alloc, ending, one, &mut sets)?;
+        sort(alloc, log, ending, one, &mut sets)?;
     }
     Ok(sets)
+}
+
+/// The same configurations, those that have placed fewer first: only one that has placed fewer may cover another.
+fn fewest_placed_first<O: Object>(kept: Vec<Configuration<O>>) -> Vec<Configuration<O>>
+    ensures { IsPermutation kept.items result.items }
+{
+    let mut kept = kept;
+    kept.sort_unstable_by_key(|one| one.placed.len());
+    kept
 }
 
 /// The configurations behind the end of an operation; none where more than the budget are held.
@@ -358,10 +379,10 @@ pub(crate) fn pass<O: Object>(
     ensures passed { IfOk result (λ r. IfSome r (λ v. IsPassed O.after log.now under_way.now ending configurations.now
         v.items)) }
 {
-    let mut sets = start(alloc, ending, configurations)?;
+    let mut sets = start(alloc, log, ending, configurations)?;
     if close(alloc, log, under_way, ending, budget, &mut sets)? {
         let Ending { waiting: _, kept } = sets;
-        Ok(Some(kept))
+        Ok(Some(fewest_placed_first(kept)))
     } else {
         Ok(None)
     }

@@ -4,6 +4,7 @@
 mod configuration;
 mod ending;
 mod event;
+mod held;
 pub mod laws;
 mod log_sweep;
 mod places;

@@ -96,10 +96,7 @@ fn first_front<O: Object>(alloc: Global, opening: O) -> Result<Front<O>, AllocEr
     ensures { IfOk result (λ f. IsOpened opening f.under_way.items f.configurations.items) }
 {
     let mut configurations = Vec::with_capacity(alloc, 1)?;
-    configurations.push(Configuration {
-        state: opening,
-        placed: Vec::new(alloc),
-    })?;
+    configurations.push(Configuration::new(opening, Vec::new(alloc)))?;
     Ok(Front {
         under_way: Vec::new(alloc),
         configurations,

@@ -1,6 +1,7 @@
 //! Lists of places.
 
 ghost use Rattle.std.specs.Prelude.{◌≡◌, ◌++◌, ◌∷◌, [], IfOk};
+ghost use Rattle.object_sweep.specs.Marks.{mark_of, marks_of};
 ghost use Rattle.object_sweep.specs.Reached.{is_in, is_within, without};
 
 use std::alloc::{AllocError, Global};
@@ -41,4 +42,21 @@ pub(crate) fn without(
         .copied()
         .filter(|other| *other != place)
         .collect(alloc)
+}
+
+pub(crate) fn mark_of(place: usize) -> u64
+    ensures { result ≡ mark_of place }
+{
+    1 << (place % 64)
+}
+
+/// The marks of all of these.
+pub(crate) fn marks_of(places: &[usize]) -> u64
+    ensures { result ≡ marks_of places.now }
+{
+    let mut marks = 0;
+    for place in places {
+        marks |= mark_of(*place);
+    }
+    marks
 }

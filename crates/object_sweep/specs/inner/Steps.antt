@@ -1,29 +1,53 @@
 -- What one step of the sweep adds to the configurations. Only private functions cite this.
 use Rattle.std.specs.Prelude.{◌≡◌, ℕ, ◌<◌, ◌≤◌, Bool, true, false, nat_eq, cond, List, [], ◌∷◌, ◌++◌, length, slice_get}
 use Rattle.std.specs.Prelude.{Option, None, Some}
-use Rattle.std.specs.Prelude.{◌⊎◌}
+use Rattle.std.specs.Prelude.{◌⊎◌, ◌||◌, not}
+use Rattle.std.specs.List.{list_all}
 use Rattle.object_core.specs.declared.operation.Operation.{Operation}
 use Rattle.object_core.specs.Logs.{is_due}
 use Rattle.object_sweep.specs.declared.configuration.Configuration.{Configuration}
-use Rattle.object_sweep.specs.Reached.{AreApart, AreReachable, is_closed, is_in, IsHeld, IsNextEnd, IsReachable}
+use Rattle.object_sweep.specs.Reached.{AreApart, AreReachable, is_closed, is_in, is_within, IsNextEnd, IsReachable}
 use Rattle.object_sweep.specs.Reached.{without}
 use Rattle.object_sweep.specs.Rests.{CanFinish, RunForwards}
 use Rattle.object_sweep.specs.inner.Cuts.{EndsAt, IsLogCut}
+
+-- whether the operation at a place is sure to have taken effect
+abbrev pub is_sure : {W : Type 0} → Option (Operation W) → Bool
+is_sure None = false
+is_sure (Some o) = is_due o
+
+abbrev pub sure_at : {W : Type 0} → List (Operation W) → ℕ → Bool
+sure_at log place = is_sure (slice_get log place)
+
+-- of these places those that are sure are among the placed
+abbrev pub has_sure : (ℕ → Bool) → List ℕ → List ℕ → Bool
+has_sure sure placed others = list_all (λ q. is_in q placed || not (sure q)) others
 
 module _ {S : Type 0} where
   -- it has the very list of places
   abbrev pub IsMadeOf : Configuration S → S → List ℕ → Type 0
   IsMadeOf one state placed = (one.state ≡ state) × (one.placed.items ≡ placed)
 
+  -- a configuration can do all that another can, which has this state and has placed these: what that one has placed
+  -- beside need not be placed
+  abbrev pub Covers : (ℕ → Bool) → Configuration S → S → List ℕ → Type 0
+  Covers sure one state placed = (one.state ≡ state) × (is_within one.placed.items placed ≡ true)
+      × (has_sure sure one.placed.items placed ≡ true)
+
+  -- one of these can
+  abbrev pub IsCovered : (ℕ → Bool) → List (Configuration S) → S → List ℕ → Type 0
+  IsCovered sure held state placed = (i : ℕ) × (one : Configuration S) × (slice_get held i ≡ Some one)
+      × Covers sure one state placed
+
   -- all that stood there stands there
   abbrev pub IsGrown : List (Configuration S) → List (Configuration S) → Type 0
   IsGrown old new = (i : ℕ) (one : Configuration S) → slice_get old i ≡ Some one → slice_get new i ≡ Some one
 
   -- one more, where the same wasn't held
-  pub record IsAdded (old : List (Configuration S)) (state : S) (placed : List ℕ)
+  pub record IsAdded (sure : ℕ → Bool) (old : List (Configuration S)) (state : S) (placed : List ℕ)
       (new : List (Configuration S)) : Type 0 where
     pub grown : IsGrown old new
-    pub held : IsHeld new state placed
+    pub held : IsCovered sure new state placed
     pub from : (i : ℕ) (one : Configuration S) → slice_get new i ≡ Some one →
         ((j : ℕ) × (slice_get old j ≡ Some one)) ⊎ IsMadeOf one state placed
     pub apart : AreApart old → AreApart new
@@ -34,37 +58,41 @@ module _ {S : Type 0} where
       × IsMadeOf copy one.state one.placed.items
 
   -- the configuration after one more operation, by whether that is the one that ends
-  abbrev pub IsPut : Bool → ℕ → S → List ℕ → List (Configuration S) → List (Configuration S) → List (Configuration S) →
-      List (Configuration S) → Type 0
-  IsPut true place state placed waiting kept waiting' kept' = (waiting' ≡ waiting) × IsAdded kept state placed kept'
-  IsPut false place state placed waiting kept waiting' kept' = (kept' ≡ kept)
-      × IsAdded waiting state (placed ++ place ∷ []) waiting'
-
-  abbrev pub IsTried : Option S → ℕ → List ℕ → ℕ → List (Configuration S) → List (Configuration S) →
+  abbrev pub IsPut : (ℕ → Bool) → Bool → ℕ → S → List ℕ → List (Configuration S) → List (Configuration S) →
       List (Configuration S) →
       List (Configuration S) → Type 0
-  IsTried None ending placed place waiting kept waiting' kept' = (waiting' ≡ waiting) × (kept' ≡ kept)
-  IsTried (Some state) ending placed place waiting kept waiting' kept' =
-      IsPut (nat_eq place ending) place state placed waiting kept waiting' kept'
+  IsPut sure true place state placed waiting kept waiting' kept' = (waiting' ≡ waiting) ×
+      IsAdded sure kept state placed kept'
+  IsPut sure false place state placed waiting kept waiting' kept' = (kept' ≡ kept)
+      × IsAdded sure waiting state (placed ++ place ∷ []) waiting'
 
-  abbrev pub IsLeftOut : Bool → S → List ℕ → List (Configuration S) → List (Configuration S) → List (Configuration S) →
+  abbrev pub IsTried : (ℕ → Bool) → Option S → ℕ → List ℕ → ℕ → List (Configuration S) → List (Configuration S) →
+      List (Configuration S) →
       List (Configuration S) → Type 0
-  IsLeftOut true state placed waiting kept waiting' kept' = (waiting' ≡ waiting) × IsAdded kept state placed kept'
-  IsLeftOut false state placed waiting kept waiting' kept' = (waiting' ≡ waiting) × (kept' ≡ kept)
+  IsTried sure None ending placed place waiting kept waiting' kept' = (waiting' ≡ waiting) × (kept' ≡ kept)
+  IsTried sure (Some state) ending placed place waiting kept waiting' kept' =
+      IsPut sure (nat_eq place ending) place state placed waiting kept waiting' kept'
+
+  abbrev pub IsLeftOut : (ℕ → Bool) → Bool → S → List ℕ → List (Configuration S) → List (Configuration S) →
+      List (Configuration S) →
+      List (Configuration S) → Type 0
+  IsLeftOut sure true state placed waiting kept waiting' kept' = (waiting' ≡ waiting) ×
+      IsAdded sure kept state placed kept'
+  IsLeftOut sure false state placed waiting kept waiting' kept' = (waiting' ≡ waiting) × (kept' ≡ kept)
 
   -- one of the configurations at hand, as the end begins
-  abbrev pub IsSorted : Bool → ℕ → S → List ℕ → List (Configuration S) → List (Configuration S) →
+  abbrev pub IsSorted : (ℕ → Bool) → Bool → ℕ → S → List ℕ → List (Configuration S) → List (Configuration S) →
       List (Configuration S) →
       List (Configuration S) → Type 0
-  IsSorted true ending state placed waiting kept waiting' kept' = (waiting' ≡ waiting)
-      × IsAdded kept state (without ending placed) kept'
-  IsSorted false ending state placed waiting kept waiting' kept' = (kept' ≡ kept)
-      × IsAdded waiting state placed waiting'
+  IsSorted sure true ending state placed waiting kept waiting' kept' = (waiting' ≡ waiting)
+      × IsAdded sure kept state (without ending placed) kept'
+  IsSorted sure false ending state placed waiting kept waiting' kept' = (kept' ≡ kept)
+      × IsAdded sure waiting state placed waiting'
 
   -- the configuration after one more operation is held
-  abbrev pub IsPutIn : Bool → ℕ → S → List ℕ → List (Configuration S) → List (Configuration S) → Type 0
-  IsPutIn true place state placed waiting kept = IsHeld kept state placed
-  IsPutIn false place state placed waiting kept = IsHeld waiting state (placed ++ place ∷ [])
+  abbrev pub IsPutIn : (ℕ → Bool) → Bool → ℕ → S → List ℕ → List (Configuration S) → List (Configuration S) → Type 0
+  IsPutIn sure true place state placed waiting kept = IsCovered sure kept state placed
+  IsPutIn sure false place state placed waiting kept = IsCovered sure waiting state (placed ++ place ∷ [])
 
 -- whether the operation at a place may have done nothing
 abbrev pub maybe_of : {W : Type 0} → Option (Operation W) → Bool
@@ -137,49 +165,53 @@ module _ {S W : Type 0} where
       × MayStandFor after r q (slice_get log r) (slice_get log q))
 
   -- what an operation leads to is held, or what another one leads to that is placed for it
-  abbrev pub IsPlacedFor : (S → W → Option S) → List (Operation W) → List ℕ → ℕ → List ℕ → ℕ → S →
+  abbrev pub IsPlacedFor : (ℕ → Bool) → (S → W → Option S) → List (Operation W) → List ℕ → ℕ → List ℕ → ℕ → S →
       List (Configuration S) → List (Configuration S) → Type 0
-  IsPlacedFor after log under_way ending placed q t waiting kept =
-      (r : ℕ) × StandsInFor after log under_way placed r q × IsPutIn (nat_eq r ending) r t placed waiting kept
+  IsPlacedFor sure after log under_way ending placed q t waiting kept =
+      (r : ℕ) × StandsInFor after log under_way placed r q × IsPutIn sure (nat_eq r ending) r t placed waiting kept
 
   -- all that a configuration leads to is held, but for what is idle
-  pub record AreTried (after : S → W → Option S) (log : List (Operation W)) (under_way : List ℕ) (ending : ℕ) (s : S)
+  pub record AreTried (sure : ℕ → Bool) (after : S → W →
+      Option S) (log : List (Operation W)) (under_way : List ℕ) (ending : ℕ) (s : S)
       (placed : List ℕ)
       (waiting kept : List (Configuration S)) : Type 0 where
-    pub left_out : may_be_left_out log ending ≡ true → IsHeld kept s placed
+    pub left_out : may_be_left_out log ending ≡ true → IsCovered sure kept s placed
     pub tried : (j q : ℕ) (t : S) → slice_get under_way j ≡ Some q → step_from after log s placed q ≡ Some t →
-        IsIdle after (slice_get log q) ⊎ IsPlacedFor after log under_way ending placed q t waiting kept
+        IsIdle after (slice_get log q) ⊎ IsPlacedFor sure after log under_way ending placed q t waiting kept
 
   -- of a configuration all that it leads to is held, or what a pure operation leads to that can be placed
-  pub data IsHandled (after : S → W → Option S) (log : List (Operation W)) (under_way : List ℕ) (ending : ℕ) (s : S)
+  pub data IsHandled (sure : ℕ → Bool) (after : S → W →
+      Option S) (log : List (Operation W)) (under_way : List ℕ) (ending : ℕ) (s : S)
       (placed : List ℕ)
       (waiting kept : List (Configuration S)) : Type 0 where
-    Tries : AreTried after log under_way ending s placed waiting kept →
-        IsHandled after log under_way ending s placed waiting kept
-    Places : (q : ℕ) (o : Operation W) (t : S) → slice_get log q ≡ Some o → IsPure after o →
+    Tries : AreTried sure after log under_way ending s placed waiting kept →
+        IsHandled sure after log under_way ending s placed waiting kept
+    Places : (q : ℕ) (o : Operation W) (t : S) → slice_get log q ≡ Some o → sure q ≡ true → IsPure after o →
         is_in q under_way ≡ true → is_in q placed ≡ false → after s o.what ≡ Some t →
-        IsPutIn (nat_eq q ending) q t placed waiting kept →
-        IsHandled after log under_way ending s placed waiting kept
+        IsPutIn sure (nat_eq q ending) q t placed waiting kept →
+        IsHandled sure after log under_way ending s placed waiting kept
 
   -- the first operations under way are tried
-  pub record IsExplored (after : S → W → Option S) (log : List (Operation W)) (under_way : List ℕ) (ending : ℕ) (s : S)
+  pub record IsExplored (sure : ℕ → Bool) (after : S → W →
+      Option S) (log : List (Operation W)) (under_way : List ℕ) (ending : ℕ) (s : S)
       (placed : List ℕ) (n : ℕ) (waiting kept waiting' kept' : List (Configuration S)) : Type 0 where
     pub grown_waiting : IsGrown waiting waiting'
     pub grown_kept : IsGrown kept kept'
-    pub left_out : may_be_left_out log ending ≡ true → IsHeld kept' s placed
+    pub left_out : may_be_left_out log ending ≡ true → IsCovered sure kept' s placed
     pub tried : (j q : ℕ) (t : S) → j < n → slice_get under_way j ≡ Some q → step_from after log s placed q ≡ Some t →
-        IsIdle after (slice_get log q) ⊎ IsPlacedFor after log under_way ending placed q t waiting' kept'
+        IsIdle after (slice_get log q) ⊎ IsPlacedFor sure after log under_way ending placed q t waiting' kept'
     pub sound : (opening : S) (ended : List ℕ) (end : ℕ) → IsNextEnd log ended ending end →
         AreUnderWay log under_way ended end →
         IsReachable after opening log ended s placed → is_in ending placed ≡ false →
         AreSound after opening log ended ending waiting kept → AreSound after opening log ended ending waiting' kept'
 
   -- a configuration is explored
-  pub record IsVisited (after : S → W → Option S) (log : List (Operation W)) (under_way : List ℕ) (ending : ℕ) (s : S)
+  pub record IsVisited (sure : ℕ → Bool) (after : S → W →
+      Option S) (log : List (Operation W)) (under_way : List ℕ) (ending : ℕ) (s : S)
       (placed : List ℕ) (waiting kept waiting' kept' : List (Configuration S)) : Type 0 where
     pub grown_waiting : IsGrown waiting waiting'
     pub grown_kept : IsGrown kept kept'
-    pub handled : IsHandled after log under_way ending s placed waiting' kept'
+    pub handled : IsHandled sure after log under_way ending s placed waiting' kept'
     pub sound : (opening : S) (ended : List ℕ) (end : ℕ) → IsNextEnd log ended ending end →
         AreUnderWay log under_way ended end →
         IsReachable after opening log ended s placed → is_in ending placed ≡ false →
@@ -191,32 +223,33 @@ module _ {S W : Type 0} where
       × IsSureAndPure after (slice_get log q) × (step_from after log s placed q ≡ Some t)
 
   -- the first of those that wait are explored
-  pub record AreExplored (after : S → W → Option S) (log : List (Operation W)) (under_way : List ℕ) (ending n : ℕ)
+  pub record AreExplored (sure : ℕ → Bool) (after : S → W →
+      Option S) (log : List (Operation W)) (under_way : List ℕ) (ending n : ℕ)
       (waiting kept waiting' kept' : List (Configuration S)) : Type 0 where
     pub grown_waiting : IsGrown waiting waiting'
     pub grown_kept : IsGrown kept kept'
     pub handled : (i : ℕ) (one : Configuration S) → i < n → slice_get waiting' i ≡ Some one →
-        IsHandled after log under_way ending one.state one.placed.items waiting' kept'
+        IsHandled sure after log under_way ending one.state one.placed.items waiting' kept'
     pub sound : (opening : S) (ended : List ℕ) (end : ℕ) → IsNextEnd log ended ending end →
         AreUnderWay log under_way ended end →
         AreSound after opening log ended ending waiting kept → AreSound after opening log ended ending waiting' kept'
 
   -- all of those that wait, or there are too many
-  abbrev pub IsClosed : (S → W → Option S) → List (Operation W) → List ℕ → ℕ → ℕ → List (Configuration S) →
+  abbrev pub IsClosed : (ℕ → Bool) → (S → W → Option S) → List (Operation W) → List ℕ → ℕ → ℕ → List (Configuration S) →
       List (Configuration S) →
       List (Configuration S) → List (Configuration S) → Bool → Type 0
-  IsClosed after log under_way ending budget waiting kept waiting' kept' true =
-      AreExplored after log under_way ending (length waiting') waiting kept waiting' kept'
-  IsClosed after log under_way ending budget waiting kept waiting' kept' false =
-      (n : ℕ) × AreExplored after log under_way ending n waiting kept waiting' kept' ×
+  IsClosed sure after log under_way ending budget waiting kept waiting' kept' true =
+      AreExplored sure after log under_way ending (length waiting') waiting kept waiting' kept'
+  IsClosed sure after log under_way ending budget waiting kept waiting' kept' false =
+      (n : ℕ) × AreExplored sure after log under_way ending n waiting kept waiting' kept' ×
       ((budget < length waiting') ⊎ (budget < length kept'))
 
   -- as an end begins: each of the first n configurations waits, or has placed the operation that ends
-  pub record AreStarted (after : S → W → Option S) (log : List (Operation W)) (ending n : ℕ)
+  pub record AreStarted (sure : ℕ → Bool) (after : S → W → Option S) (log : List (Operation W)) (ending n : ℕ)
       (configurations waiting kept : List (Configuration S)) : Type 0 where
     pub held : (i : ℕ) (one : Configuration S) → i < n → slice_get configurations i ≡ Some one →
-        (is_in ending one.placed.items ≡ true → IsHeld kept one.state (without ending one.placed.items)) ×
-        (is_in ending one.placed.items ≡ false → IsHeld waiting one.state one.placed.items)
+        (is_in ending one.placed.items ≡ true → IsCovered sure kept one.state (without ending one.placed.items)) ×
+        (is_in ending one.placed.items ≡ false → IsCovered sure waiting one.state one.placed.items)
     pub sound : (opening : S) (ended : List ℕ) (end : ℕ) → IsNextEnd log ended ending end →
         AreReachable after opening log ended configurations → AreSound after opening log ended ending waiting kept
 

@@ -7,5 +7,5 @@ pub returns : goal.returns
 returns g c = (
   c.index-held-place.result,
   slice_get_read c.args.held.now (length c.args.held.now) c.args.place c.index-held-place.result refl c.requires c.index-held-place.is,
-  (refl, c.in_ok-from_slice.ensures.items ∙ c.as_slice.ensures.value),
+  (c.new.ensures.0, c.new.ensures.1 ∙ c.in_ok-placed.ensures.items ∙ c.as_slice.ensures.value),
 )

@@ -1,7 +1,8 @@
 -- Those met so far are tried.
-use Rattle.object_sweep.specs.inner.Steps.{IsExplored}
+use Rattle.object_sweep.specs.inner.Steps.{sure_at, IsExplored}
 use Rattle.object_sweep.proofs.ending.explore.Given as goal
 
 abbrev pub invariant-loop-place : goal.invariant-loop-place
-invariant-loop-place g l = IsExplored g.O.Object.after l.log l.under_way l.ending l.from.state l.from.placed.items l.place-index
+invariant-loop-place g l = IsExplored (sure_at l.log) g.O.Object.after l.log l.under_way l.ending l.from.state l.from.placed.items
+    l.place-index
     l.fn.sets.waiting.items l.fn.sets.kept.items l.sets.waiting.items l.sets.kept.items

@@ -1,19 +1,19 @@
--- One more that isn't the same.
+-- One more that can't.
 use Rattle.std.proofs.Common.{◌≡◌, ◌<◌, ◌≤◌, length, slice_get, Some, refl, sym, ◌∙◌, ap, subst, arith, inl, inr}
 use Rattle.std.proofs.lemmas.Bool.{cases_lt, iff_false}
 use Rattle.std.proofs.lemmas.Option.{same_Some, slice_get_read, slice_get_within}
 use Rattle.object_sweep.specs.declared.configuration.Configuration.{Configuration}
-use Rattle.object_sweep.specs.Reached.{IsSameAs}
-use Rattle.object_sweep.proofs.configuration.is_held.Goals as goal
+use Rattle.object_sweep.specs.inner.Steps.{Covers, sure_at}
+use Rattle.object_sweep.proofs.held.is_covered.Goals as goal
 
-pub returns-then-is_same : goal.returns-then-is_same
-returns-then-is_same g c = (
+pub returns-then-covers : goal.returns-then-covers
+returns-then-covers g c = (
   λ t. (
     c.loop-one.one-index,
     c.one-item.result,
     slice_get_read c.args.held.now (length c.args.held.now) c.loop-one.one-index
         c.one-item.result refl c.loop-one-test.true c.one-item.is,
-    c.is_same.ensures.0 c.if-is_same.true,
+    c.covers.ensures.0 c.if-covers.true,
   ),
   λ h. refl,
 )
@@ -28,8 +28,9 @@ loop-one-preserved g c j one l at same = elim (cases_lt j c.loop-one.one-index) 
       c.one-item.is in
       let it : one ≡ c.one-item.result =
       same_Some one c.one-item.result (sym at ∙ (ap (slice_get c.args.held.now) e ∙ here)) in
-      let P : Configuration g.row.O.Denot → Type 0 = λ z. IsSameAs z c.args.state c.args.placed.now in
-      iff_false c.is_same.ensures c.if-is_same.false (subst P it same)
+      let P : Configuration g.row.O.Denot → Type 0 = λ z. Covers (sure_at c.args.log.now) z c.args.sought.now.state
+      c.args.sought.now.placed.items in
+      iff_false c.covers.ensures c.if-covers.false (subst P it same)
 ]
 
 pub returns : goal.returns
