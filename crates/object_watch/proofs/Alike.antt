@@ -5,27 +5,32 @@ use Rattle.std.specs.Prelude.{IsSomeAnd}
 use Rattle.std.proofs.lemmas.List.{length-append}
 use Rattle.std.proofs.lemmas.Option.{same_Some, slice_get_within, slice_get-get_or}
 use Rattle.object_core.specs.declared.operation.Operation.{Operation}
-use Rattle.object_core.specs.Logs.{CanMake, is_due, IsLinearizable, KeepsPrecedence, MayStand, NonePrecedes}
+use Rattle.object_core.specs.Logs.{CanMake, is_due, IsLawfulOrder, KeepsPrecedence, MayStand, NonePrecedes}
 use Rattle.history_core.specs.Orders.{times_of}
-use Rattle.object_watch.specs.Remainders.{IsLawfulWith, known, known_end}
-use Rattle.object_watch.specs.inner.Levels.{AreAlike}
+use Rattle.object_watch.specs.Remainders.{known, known_end}
+use Rattle.object_watch.specs.inner.Levels.{IsAlike}
 use Rattle.object_watch.proofs.Going.{of_both, of_map}
 
 module _ {S W : Type 0} (after : S → W → Option S) where
+  -- nothing tells two lists apart
+  pub record AreAlike (rest other : List (Operation W)) : Type 0 where
+    pub long : length rest ≡ length other
+    pub each : (i : ℕ) (a b : Operation W) → slice_get rest i ≡ Some a → slice_get other i ≡ Some b → IsAlike after a b
+
   -- what stands at a place of one stands there alike in the other
-  partner : (xs ys : List (Operation W)) → AreAlike after xs ys → (i : ℕ) (b : Operation W) → slice_get ys i ≡ Some b →
+  partner : (xs ys : List (Operation W)) → AreAlike xs ys → (i : ℕ) (b : Operation W) → slice_get ys i ≡ Some b →
       (a : Operation W) × (slice_get xs i ≡ Some a)
   partner xs ys h i b e =
       let l = slice_get_within ys i b e in
       let long = h.long in (get_or xs i b, slice_get-get_or xs i b (omega (arith, l, long)))
 
-  other_partner : (xs ys : List (Operation W)) → AreAlike after xs ys → (i : ℕ) (a : Operation W) → slice_get xs i ≡ Some a →
+  other_partner : (xs ys : List (Operation W)) → AreAlike xs ys → (i : ℕ) (a : Operation W) → slice_get xs i ≡ Some a →
       (b : Operation W) × (slice_get ys i ≡ Some b)
   other_partner xs ys h i a e =
       let l = slice_get_within xs i a e in
       let long = h.long in (get_or ys i a, slice_get-get_or ys i a (omega (arith, l, long)))
 
-  module _ (xs ys : List (Operation W)) (h : AreAlike after xs ys) where
+  module _ (xs ys : List (Operation W)) (h : AreAlike xs ys) where
     steps : (s : S) (order : List ℕ) → CanMake after xs s order → CanMake after ys s order
     steps s [] can = tt
     steps s (p ∷ order) can =
@@ -47,21 +52,19 @@ module _ {S W : Type 0} (after : S → W → Option S) where
             let Q : ℕ → Type 0 = λ z. IsSomeAnd a'.0.ends (λ end. end < z) in
             k.0 r a'.0 b'.0 stood a'.1 b'.1 (subst Q (sym eb.0) (subst P (sym ea.1) before))
 
-    pub same_orders : (s : S) → IsLinearizable after s xs → IsLinearizable after s ys
-    same_orders s l = (
-      l.0,
-      record { listing = listing; precedence = precedence l.0 l.1.precedence; steps = steps s l.0 l.1.steps },
-    )
+    pub same_order : (s : S) (order : List ℕ) → IsLawfulOrder after s xs order → IsLawfulOrder after s ys order
+    same_order s order l =
+        record { listing = listing; precedence = precedence order l.precedence; steps = steps s order l.steps }
       where
-        listing : (p : ℕ) (o : Operation W) → slice_get ys p ≡ Some o → MayStand (is_due o) (times_of p l.0)
+        listing : (p : ℕ) (o : Operation W) → slice_get ys p ≡ Some o → MayStand (is_due o) (times_of p order)
         listing p o at =
             let a = partner xs ys h p o at in
             let e = h.each p a.0 o a.1 at in
             let due : is_due a.0 ≡ is_due o = ap (λ z. is_some z && not a.0.maybe) e.1 ∙ ap (λ z. is_some o.ends && not z) e.2 in
-            subst (λ b. MayStand b (times_of p l.0)) due (l.1.listing p a.0 a.1)
+            subst (λ b. MayStand b (times_of p order)) due (l.listing p a.0 a.1)
 
-  module _ (future : List (Operation W)) (last : ℕ) (xs ys : List (Operation W)) (h : AreAlike after xs ys) where
-    whole : AreAlike after (map (known last) (xs ++ future)) (map (known last) (ys ++ future))
+  module _ (future : List (Operation W)) (last : ℕ) (xs ys : List (Operation W)) (h : AreAlike xs ys) where
+    whole : AreAlike (map (known last) (xs ++ future)) (map (known last) (ys ++ future))
     whole = record { long = long; each = each }
       where
         same_long : {X Y : Type 0} (f : X → Y) (us vs : List X) → length us ≡ length vs → length (map f us) ≡ length (map f vs)
@@ -103,5 +106,6 @@ module _ {S W : Type 0} (after : S → W → Option S) where
                   λ s. ap (λ (z : Operation W). after s z.what) e,
                 )
 
-    pub goes_alike : (s : S) → IsLawfulWith after future last s xs → IsLawfulWith after future last s ys
-    goes_alike s g = same_orders (map (known last) (xs ++ future)) (map (known last) (ys ++ future)) whole s g
+    pub order_alike : (s : S) (order : List ℕ) → IsLawfulOrder after s (map (known last) (xs ++ future)) order →
+        IsLawfulOrder after s (map (known last) (ys ++ future)) order
+    order_alike s order g = same_order (map (known last) (xs ++ future)) (map (known last) (ys ++ future)) whole s order g

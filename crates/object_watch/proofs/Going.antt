@@ -1,18 +1,21 @@
 -- What goes on: by one end, by a pure operation, and by what is alike.
-use Rattle.std.proofs.Common.{◌≡◌, ℕ, zero, suc, ◌+◌, ◌<◌, ◌≤◌, Bool, true, false, cond, nat_eq, nat_le, List, [], ◌∷◌, ◌++◌, length, map}
+use Rattle.std.proofs.Common.{◌≡◌, ◌≢◌, ◌&&◌, not, is_some, ℕ, zero, suc, ◌+◌, ◌<◌, ◌≤◌, Bool, true, false, cond}
+use Rattle.std.proofs.Common.{nat_eq, nat_le, List, [], ◌∷◌, ◌++◌, length, map}
 use Rattle.std.proofs.Common.{slice_get, Option, None, Some, refl, sym, ◌∙◌, ap, subst, arith, ◌↔◌, ◌⊎◌, inl, inr}
 use Rattle.std.proofs.lemmas.Bool.Decides.{nat_tests}
+use Rattle.std.proofs.lemmas.List.{length-map}
 use Rattle.std.proofs.lemmas.Option.{same_Some, slice_get_within}
 use Rattle.object_core.specs.declared.operation.Operation.{Operation}
-use Rattle.object_core.specs.Logs.{IsLinearizable}
-use Rattle.object_sweep.specs.Rests.{CanFinish, RunForwards}
-use Rattle.object_sweep.proofs.Pure.{without_pure}
-use Rattle.object_sweep.proofs.Whole.{opened}
+use Rattle.object_core.specs.Logs.{IsLawfulOrder, IsLinearizable}
+use Rattle.object_sweep.specs.Rests.{IsRest, RunForwards}
+use Rattle.object_sweep.proofs.InPlace.{in_place, long_renamed, renamed}
+use Rattle.object_sweep.proofs.Pure.{long_without, without_pure}
+use Rattle.object_sweep.specs.inner.Steps.{IsInPlaceOf}
 use Rattle.object_sweep.specs.Reached.{without}
-use Rattle.object_watch.specs.Remainders.{IsAhead, IsFuture, IsLawfulWith, known, known_end, removed}
+use Rattle.object_watch.specs.Remainders.{IsAhead, ComesFrom, IsLawfulWith, known, known_end, removed}
 use Rattle.object_watch.specs.inner.Levels.{LeavesAll}
-use Rattle.object_watch.proofs.FirstEnds.{first_end, PlacesOne}
-use Rattle.object_watch.proofs.Removing.{removed_rest}
+use Rattle.object_watch.proofs.FirstEnds.{first_end, first_end_order, OrderOut, OrderPlaced, PlacesOne}
+use Rattle.object_watch.proofs.Removing.{down, lowered, raised, up}
 
 -- what is known of an end is the end
 end_known : (last : ℕ) (ends : Option ℕ) (end : ℕ) → known_end last ends ≡ Some end → ends ≡ Some end
@@ -27,6 +30,44 @@ known_by : (last : ℕ) (ends : Option ℕ) (end : ℕ) → ends ≡ Some end �
 known_by last ends end e le =
     let b : nat_le end last ≡ true = grind (arith, nat_tests) in
     ap (known_end last) e ∙ ap (λ z. cond z (Some end) None) b
+
+known_most : (last : ℕ) (ends : Option ℕ) (end : ℕ) → known_end last ends ≡ Some end → end ≤ last
+known_most last None end e = cc
+known_most last (Some at) end e = by_test (nat_le at last) refl e
+  where
+    by_test : (b : Bool) → nat_le at last ≡ b → cond b (Some at) None ≡ Some end → end ≤ last
+    by_test true f g =
+        let l : at ≤ last = grind (arith, nat_tests) in
+        let same = same_Some at end g in omega (arith, l, same)
+    by_test false f g = cc
+
+both_true : (x y : Bool) → (x && y) ≡ true → (x ≡ true) × (y ≡ true)
+both_true true y e = (refl, e)
+both_true false y e = cc
+
+some_of : (ends : Option ℕ) → is_some ends ≡ true → (end : ℕ) × (ends ≡ Some end)
+some_of None e = cc
+some_of (Some end) e = (end, refl)
+
+-- what may be in the place of another may be so however much is known
+known_in_place : {S W : Type 0} (after : S → W → Option S) (last : ℕ) (a b : Operation W) → IsInPlaceOf after a b →
+    IsInPlaceOf after (known last a) (known last b)
+known_in_place after last a b h = record { same = h.same; due = due; sooner = sooner }
+  where
+    sooner : (end : ℕ) → known_end last b.ends ≡ Some end → (at : ℕ) × (known_end last a.ends ≡ Some at) × (at ≤ end)
+    sooner end e =
+        let most = known_most last b.ends end e in
+        let s = h.sooner end (end_known last b.ends end e) in
+        let l = s.2 in (s.0, known_by last a.ends s.0 s.1 (omega (arith, l, most)), l)
+
+    due : (is_some (known_end last b.ends) && not b.maybe) ≡ true → (is_some (known_end last a.ends) && not a.maybe) ≡ true
+    due e =
+        let parts = both_true (is_some (known_end last b.ends)) (not b.maybe) e in
+        let end = some_of (known_end last b.ends) parts.0 in
+        let there : b.ends ≡ Some end.0 = end_known last b.ends end.0 end.1 in
+        let was : (is_some b.ends && not b.maybe) ≡ true = ap (λ z. is_some z && not b.maybe) there ∙ parts.1 in
+        let own = both_true (is_some a.ends) (not a.maybe) (h.due was) in
+        let s = sooner end.0 end.1 in ap (λ z. is_some z && not a.maybe) s.1 ∙ own.1
 
 module _ {X : Type 0} where
   -- an entry of one list or of the other
@@ -65,7 +106,7 @@ module _ {X Y : Type 0} (f : X → Y) where
   removed_map zero (x ∷ xs) = refl
   removed_map (suc q) (x ∷ xs) = ap (λ zs. f x ∷ zs) (removed_map q xs)
 
-module _ {S W : Type 0} (after : S → W → Option S) (end last : ℕ) (future : List (Operation W)) (is : IsFuture end last future)
+module _ {S W : Type 0} (after : S → W → Option S) (end last : ℕ) (future : List (Operation W)) (is : ComesFrom (end + 1) last future)
     (s : S) (rest : List (Operation W)) (ahead : IsAhead end rest) where
   abbrev whole : List (Operation W)
   whole = map (known last) (rest ++ future)
@@ -117,7 +158,8 @@ module _ {S W : Type 0} (after : S → W → Option S) (end last : ℕ) (future 
     where
       exact : IsLinearizable after s whole
           ↔ (((o.maybe ≡ true) × IsLinearizable after s (removed p whole)) ⊎ PlacesOne after whole end s)
-      exact = first_end after whole end p (known last o) s forth later_ends (there p o at) (known_by last o.ends end ends is.later)
+      exact = first_end after whole end p (known last o) s forth later_ends (there p o at)
+          (known_by last o.ends end ends (let l = is.later in omega (arith, l)))
 
       onward : ((o.maybe ≡ true) × IsLinearizable after s (removed p whole)) ⊎ PlacesOne after whole end s →
           ((o.maybe ≡ true) × IsLawfulWith after future last s (removed p rest)) ⊎ PlacesLeft
@@ -145,18 +187,71 @@ module _ {S W : Type 0} (after : S → W → Option S) (end last : ℕ) (future 
             subst (IsLinearizable after t) (sym (removed_whole q (slice_get_within rest q a qa))) h,
           )
 
-  -- a pure operation that can be placed: it is enough to place it
-  pub goes_by_pure : (p : ℕ) (o : Operation W) → slice_get rest p ≡ Some o → o.ends ≡ Some end → (q : ℕ) (a : Operation W) (t : S) →
-      slice_get rest q ≡ Some a → a.starts ≤ end → LeavesAll after a → after s a.what ≡ Some t →
-      (IsLawfulWith after future last s rest ↔ IsLawfulWith after future last t (removed q rest))
-  goes_by_pure p o at ends q a t qa began pure step = (onward, λ h. (goes_by_end p o at ends).1 (inr (q, a, t, qa, began, step, h)))
+  -- the same of one order: it leaves as long a one, or a shorter one
+  pub order_by_end : (p : ℕ) (o : Operation W) → slice_get rest p ≡ Some o → o.ends ≡ Some end → (order : List ℕ) →
+      IsLawfulOrder after s whole order →
+      ((o.maybe ≡ true) × (left : List ℕ) × IsLawfulOrder after s (map (known last) (removed p rest ++ future)) left
+      × (length left ≡ length order))
+      ⊎ ((q : ℕ) × (a : Operation W) × (t : S) × (slice_get rest q ≡ Some a) × (a.starts ≤ end) × (after s a.what ≡ Some t)
+      × (left : List ℕ) × IsLawfulOrder after t (map (known last) (removed q rest ++ future)) left × (length left + 1 ≡ length order))
+  order_by_end p o at ends order h = elim by_end [
+    | inl x ↦
+        let P : List (Operation W) → Type 0 = λ z. IsLawfulOrder after s z x.1 in
+        inl (x.0, x.1, subst P (removed_whole p (slice_get_within rest p o at)) x.2, x.3)
+    | inr (q, a, t, qa, began, step, left, g, long) ↦
+        let f = from q a qa in
+        let same : f.0.starts ≡ a.starts = ap (λ (z : Operation W). z.starts) f.1 in
+        let what : after s f.0.what ≡ Some t = ap (λ (z : Operation W). after s z.what) f.1 ∙ step in
+        let P : List (Operation W) → Type 0 = λ z. IsLawfulOrder after t z left in
+        elim f.2 [
+          | inl r ↦ inr (q, f.0, t, r.1, omega (arith, same, began), what, left, subst P (removed_whole q r.0) g, long)
+          | inr r ↦ let l = is.begins r.0 f.0 r.1 in absurd (omega (arith, same, began, l))
+        ]
+  ]
     where
-      onward : IsLawfulWith after future last s rest → IsLawfulWith after future last t (removed q rest)
-      onward h =
-          let c = (opened after s whole).1 h in
-          let w : CanFinish after whole (λ r. nat_eq r q) s =
-          (without q c.0, without_pure after whole q (known last a) (there q a qa) pure (λ r. false) s c.0 c.1) in
-          let g : IsLinearizable after s (removed q whole) = removed_rest after whole q s w in
-          let still : t ≡ s = pure s t step in
-          let m : IsLinearizable after t (removed q whole) = subst (λ z. IsLinearizable after z (removed q whole)) (sym still) g in
-          subst (IsLinearizable after t) (removed_whole q (slice_get_within rest q a qa)) m
+      by_end : OrderOut after whole p (known last o) s order ⊎ OrderPlaced after whole end s order
+      by_end = first_end_order after whole end p (known last o) s forth (there p o at)
+          (known_by last o.ends end ends (let l = is.later in omega (arith, l))) order h
+
+  -- a pure operation that can be placed: it is enough to place it
+  pub order_by_pure : (q : ℕ) (a : Operation W) (t : S) → slice_get rest q ≡ Some a → LeavesAll after a → after s a.what ≡ Some t →
+      (order : List ℕ) → IsLawfulOrder after s whole order →
+      (left : List ℕ) × IsLawfulOrder after t (map (known last) (removed q rest ++ future)) left × (length left ≤ length order)
+  order_by_pure q a t qa pure step order h =
+      let r : IsRest after whole (λ z. false) s order =
+      record { listing = h.listing; precedence = h.precedence; steps = h.steps } in
+      let w : IsRest after whole (λ z. nat_eq z q) s (without q order) =
+      without_pure after whole q (known last a) (there q a qa) pure (λ z. false) s order r in
+      let g : IsLawfulOrder after s (removed q whole) (map (down q) (without q order)) = lowered after whole q s (without q order) w in
+      let still : t ≡ s = pure s t step in
+      let P : S → Type 0 = λ z. IsLawfulOrder after z (removed q whole) (map (down q) (without q order)) in
+      let Q : List (Operation W) → Type 0 = λ z. IsLawfulOrder after t z (map (down q) (without q order)) in
+      let long = length-map (without q order) (down q) in
+      let most = long_without q order in (
+        map (down q) (without q order),
+        subst Q (removed_whole q (slice_get_within rest q a qa)) (subst P (sym still) g),
+        omega (arith, long, most),
+      )
+
+  -- one that may be in the place of another leaves as long an order
+  pub order_in_place : (r q : ℕ) (a b : Operation W) → slice_get rest r ≡ Some a → slice_get rest q ≡ Some b → IsInPlaceOf after a b →
+      r ≢ q → b.starts ≤ end → (t : S) (left : List ℕ) →
+      IsLawfulOrder after t (map (known last) (removed q rest ++ future)) left →
+      (other : List ℕ) × IsLawfulOrder after t (map (known last) (removed r rest ++ future)) other × (length other ≡ length left)
+  order_in_place r q a b ra qb h ne began t left g =
+      let P : List (Operation W) → Type 0 = λ z. IsLawfulOrder after t z left in
+      let f : IsRest after whole (λ z. nat_eq z q) t (map (up q) left) =
+      raised after whole q t left (subst P (sym (removed_whole q (slice_get_within rest q b qb))) g) in
+      let w : IsRest after whole (λ z. nat_eq z r) t (map (renamed r q) (map (up q) left)) =
+      in_place after whole forth r q (known last a) (known last b) (there r a ra) (there q b qb) (known_in_place after last a b h) ne
+      (λ z. false) end (λ z at x e zx xe. later_ends z at x zx xe) began refl refl t (map (up q) left) f in
+      let long = length-map (map (renamed r q) (map (up q) left)) (down r) in
+      let named = long_renamed r q (map (up q) left) in
+      let raise = length-map left (up q) in
+      let Q : List (Operation W) → Type 0 =
+      λ z. IsLawfulOrder after t z (map (down r) (map (renamed r q) (map (up q) left))) in (
+        map (down r) (map (renamed r q) (map (up q) left)),
+        subst Q (removed_whole r (slice_get_within rest r a ra))
+            (lowered after whole r t (map (renamed r q) (map (up q) left)) w),
+        omega (arith, long, named, raise),
+      )

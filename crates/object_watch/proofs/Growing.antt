@@ -1,322 +1,160 @@
--- What is added, one after the other.
-use Rattle.std.proofs.Common.{◌≡◌, ℕ, ◌+◌, ◌<◌, ◌≤◌, true, List, length, slice_get, Option, None, Some, sym, ◌∙◌, ap, subst, arith}
-use Rattle.std.proofs.Common.{◌⊎◌, inl, inr}
+-- What one end leads to, one operation after the other.
+use Rattle.std.proofs.Common.{◌≡◌, ℕ, ◌+◌, ◌<◌, ◌≤◌, true, List, length, slice_get, Option, None, Some, refl, sym, ◌∙◌, ap, subst, arith}
+use Rattle.std.proofs.Common.{◌⊎◌, inl, inr, Result, Ok, Err, OnOk}
 use Rattle.std.proofs.lemmas.Bool.{cases_lt}
-use Rattle.std.proofs.lemmas.Option.{same_Some, slice_get_within}
+use Rattle.std.proofs.lemmas.Option.{same_Some}
 use Rattle.object_core.specs.declared.operation.Operation.{Operation}
-use Rattle.object_watch.specs.Remainders.{AnyLawfulWith, IsAhead, IsFuture, IsLawfulWith, removed}
+use Rattle.object_watch.specs.Remainders.{removed}
 use Rattle.object_watch.specs.declared.remainder.Remainder.{Remainder}
-use Rattle.object_watch.specs.inner.Levels.{AreVisited, AnyBelow, StaysLawful, IsLawfulByOne, IsEnding, IsEndingAt, IsGrownBy, IsOneLess}
-use Rattle.object_watch.specs.inner.Levels.{IsPureAt, IsPutAmong, IsLedOn, LeavesOut, PlacesAt}
-use Rattle.object_watch.proofs.Going.{goes_by_end, goes_by_pure}
+use Rattle.object_watch.specs.inner.Levels.{AreAllTried, IsHeldWithSpare, IsEnding, IsEndingAt, AreStillThere, IsGrownBy, IsSeenTo}
+use Rattle.object_watch.specs.inner.Levels.{IsLedOn, IsLeftBy}
+use Rattle.object_watch.specs.inner.Levels.{IsLeftOutIn, IsPlacedIn, IsPureAt, IsPutAmong, IsTriedIn, IsLookedInto}
+use Rattle.object_watch.specs.inner.Levels.IsSeenTo.{Keeps, Places, Tries}
 
--- those below one more place
-module _ {S W : Type 0} (after : S → W → Option S) (n : ℕ) (level : List (Remainder S W)) (future : List (Operation W)) (last : ℕ)
-    (old : List (Remainder S W)) where
-  further : AnyLawfulWith after future last old ⊎ AnyBelow after n level future last →
-      AnyLawfulWith after future last old ⊎ AnyBelow after (n + 1) level future last
-  further (inl x) = inl x
-  further (inr (i, one, l, at, x)) = inr (i, one, omega (arith, l), at, x)
-
-  nearer : (by : Remainder S W) → slice_get level n ≡ Some by →
-      AnyLawfulWith after future last old ⊎ AnyBelow after (n + 1) level future last →
-      (AnyLawfulWith after future last old ⊎ AnyBelow after n level future last)
-      ⊎ IsLawfulWith after future last by.state by.rest.items
-  nearer by at (inl x) = inl (inl x)
-  nearer by at (inr (i, one, l, e, x)) = elim (cases_lt i n) [
-    | inl less ↦ inl (inr (i, one, less, e, x))
-    | inr le ↦
-        let here : i ≡ n = omega (arith, l, le) in
-        let same : one ≡ by = same_Some one by (sym e ∙ (ap (slice_get level) here ∙ at)) in
-        inr (subst (λ (z : Remainder S W). IsLawfulWith after future last z.state z.rest.items) same x)
-  ]
+-- two facts of one result
+pub on_ok_both : {T E P Q R : Type 0} (r : Result T E) → (P → Q → R) → OnOk r P → OnOk r Q → OnOk r R
+on_ok_both (Ok x) f p q = f p q
+on_ok_both (Err e) f p q = tt
 
 module _ {S W : Type 0} (after : S → W → Option S) (end : ℕ) where
-  -- what is put among others
-  pub grows_put : (old : List (Remainder S W)) (s : S) (rest : List (Operation W)) (new : List (Remainder S W)) →
-      IsPutAmong after old s rest new → IsGrownBy after end old new (StaysLawful after s rest) (λ r. r ≡ rest)
-  grows_put old s rest new h = record { goes = λ future last is. h.goes future last; from = h.from }
+  -- what is covered stays so
+  pub still_covered : (old new : List (Remainder S W)) → AreStillThere old new → (s : S) (rest : List (Operation W)) →
+      IsHeldWithSpare after end old s rest → IsHeldWithSpare after end new s rest
+  still_covered old new still s rest h = (h.0, h.1, still h.0 h.1 h.2, h.3, h.4)
 
-  -- the same in other words
-  pub grows_as : (old new : List (Remainder S W)) (G H : List (Operation W) → ℕ → Type 0) (L M : List (Operation W) → Type 0) →
-      IsGrownBy after end old new G L →
-      ((future : List (Operation W)) (last : ℕ) → IsFuture end last future → G future last → H future last) →
-      ((future : List (Operation W)) (last : ℕ) → IsFuture end last future → H future last → G future last) →
-      ((r : List (Operation W)) → L r → M r) → IsGrownBy after end old new H M
-  grows_as old new G H L M h onward back left = record { goes = λ future last is. (to future last is, fro future last is); from = from }
-    where
-      to : (future : List (Operation W)) (last : ℕ) → IsFuture end last future → AnyLawfulWith after future last new →
-          AnyLawfulWith after future last old ⊎ H future last
-      to future last is x = elim ((h.goes future last is).0 x) [
-        | inl a ↦ inl a
-        | inr b ↦ inr (onward future last is b)
-      ]
+  pub still_tried : (old new : List (Remainder S W)) → AreStillThere old new → (s : S) (rest : List (Operation W)) (p n : ℕ) →
+      AreAllTried after end s rest p n old → AreAllTried after end s rest p n new
+  still_tried old new still s rest p n h = (
+    λ o at may. still_covered old new still s (removed p rest) (h.0 o at may),
+    λ q l. elim (h.1 q l) [
+      | inl x ↦ inl x
+      | inr x ↦ inr (λ a t at began step. still_covered old new still t (removed q rest) (x a t at began step))
+    ],
+  )
 
-      fro : (future : List (Operation W)) (last : ℕ) → IsFuture end last future →
-          AnyLawfulWith after future last old ⊎ H future last → AnyLawfulWith after future last new
-      fro future last is (inl a) = (h.goes future last is).1 (inl a)
-      fro future last is (inr b) = (h.goes future last is).1 (inr (back future last is b))
-
-      from : (i : ℕ) (one : Remainder S W) → slice_get new i ≡ Some one → ((j : ℕ) × (slice_get old j ≡ Some one)) ⊎ M one.rest.items
-      from i one at = elim (h.from i one at) [
-        | inl a ↦ inl a
-        | inr b ↦ inr (left one.rest.items b)
-      ]
-
-  -- nothing is added
-  pub grows_not : (old : List (Remainder S W)) (G : List (Operation W) → ℕ → Type 0) (L : List (Operation W) → Type 0) →
-      ((future : List (Operation W)) (last : ℕ) → G future last → ⊥) → IsGrownBy after end old old G L
-  grows_not old G L never = record { goes = λ future last is. (λ x. inl x, fro future last); from = λ i one at. inl (i, at) }
-    where
-      fro : (future : List (Operation W)) (last : ℕ) → AnyLawfulWith after future last old ⊎ G future last →
-          AnyLawfulWith after future last old
-      fro future last (inl a) = a
-      fro future last (inr b) = absurd (never future last b)
-
-  -- more is added
-  pub grows_then : (old mid new : List (Remainder S W)) (G H : List (Operation W) → ℕ → Type 0) (L : List (Operation W) → Type 0) →
-      IsGrownBy after end old mid G L → IsGrownBy after end mid new H L →
-      IsGrownBy after end old new (λ future last. G future last ⊎ H future last) L
-  grows_then old mid new G H L g h = record { goes = λ future last is. (to future last is, fro future last is); from = from }
-    where
-      to : (future : List (Operation W)) (last : ℕ) → IsFuture end last future → AnyLawfulWith after future last new →
-          AnyLawfulWith after future last old ⊎ (G future last ⊎ H future last)
-      to future last is x = elim ((h.goes future last is).0 x) [
-        | inl a ↦ elim ((g.goes future last is).0 a) [
-          | inl b ↦ inl b
-          | inr b ↦ inr (inl b)
-        ]
-        | inr b ↦ inr (inr b)
-      ]
-
-      fro : (future : List (Operation W)) (last : ℕ) → IsFuture end last future →
-          AnyLawfulWith after future last old ⊎ (G future last ⊎ H future last) → AnyLawfulWith after future last new
-      fro future last is (inl a) = (h.goes future last is).1 (inl ((g.goes future last is).1 (inl a)))
-      fro future last is (inr (inl b)) = (h.goes future last is).1 (inl ((g.goes future last is).1 (inr b)))
-      fro future last is (inr (inr b)) = (h.goes future last is).1 (inr b)
-
-      from : (i : ℕ) (one : Remainder S W) → slice_get new i ≡ Some one → ((j : ℕ) × (slice_get old j ≡ Some one)) ⊎ L one.rest.items
-      from i one at = elim (h.from i one at) [
-        | inl a ↦ g.from a.0 one a.1
-        | inr b ↦ inr b
-      ]
+  pub still_handled : (seen seen' kept kept' : List (Remainder S W)) → AreStillThere seen seen' → AreStillThere kept kept' → (s : S)
+      (rest : List (Operation W)) → IsSeenTo after end s rest seen kept → IsSeenTo after end s rest seen' kept'
+  still_handled seen seen' kept kept' still too s rest (Keeps none h) = Keeps none (still_covered kept kept' too s rest h)
+  still_handled seen seen' kept kept' still too s rest (Places p q ends pure h) =
+      Places p q ends pure (λ a t at began step. still_covered seen seen' still t (removed q rest) (h a t at began step))
+  still_handled seen seen' kept kept' still too s rest (Tries p ends h) =
+      Tries p ends (still_tried seen seen' still s rest p (length rest) h)
 
   module _ (s : S) (rest : List (Operation W)) where
-    less : (q : ℕ) → q < length rest → (r : List (Operation W)) → r ≡ removed q rest → IsOneLess rest r
-    less q l r e = (q, l, e)
+    -- nothing is new
+    pub grown_not : (old : List (Remainder S W)) → IsGrownBy after end s rest old old
+    grown_not old = record { still = λ i one e. e; from = λ i one e. inl e }
 
-    -- one operation is placed
-    pub grows_placed : (old new : List (Remainder S W)) (q : ℕ) (a : Operation W) (t : S) → slice_get rest q ≡ Some a → a.starts ≤ end →
-        after s a.what ≡ Some t → IsPutAmong after old t (removed q rest) new →
-        IsGrownBy after end old new (PlacesAt after end s rest q) (IsOneLess rest)
-    grows_placed old new q a t at began step put =
-        grows_as old new (StaysLawful after t (removed q rest)) (PlacesAt after end s rest q) (λ r. r ≡ removed q rest) (IsOneLess rest)
-        (grows_put old t (removed q rest) new put) (λ future last is h. (a, t, at, began, step, h)) back
-        (less q (slice_get_within rest q a at))
+    pub grown_then : (old mid new : List (Remainder S W)) → IsGrownBy after end s rest old mid → IsGrownBy after end s rest mid new →
+        IsGrownBy after end s rest old new
+    grown_then old mid new g h = record { still = λ i one e. h.still i one (g.still i one e); from = from }
       where
-        back : (future : List (Operation W)) (last : ℕ) → IsFuture end last future → PlacesAt after end s rest q future last →
-            IsLawfulWith after future last t (removed q rest)
-        back future last is (b, u, bt, bb, bs, h) =
-            let same : b ≡ a = same_Some b a (sym bt ∙ at) in
-            let f : after s a.what ≡ Some u = ap (λ (z : Operation W). after s z.what) (sym same) ∙ bs in
-            let it : u ≡ t = same_Some u t (sym f ∙ step) in
-            subst (λ z. IsLawfulWith after future last z (removed q rest)) it h
+        from : (i : ℕ) (one : Remainder S W) → slice_get new i ≡ Some one →
+            (slice_get old i ≡ Some one) ⊎ IsLeftBy after end s rest one.state one.rest.items
+        from i one e = elim (h.from i one e) [
+          | inl was ↦ g.from i one was
+          | inr x ↦ inr x
+        ]
 
-    -- or it can't be
-    pub grows_unplaced : (old : List (Remainder S W)) (q : ℕ) (a : Operation W) → slice_get rest q ≡ Some a →
-        ((t : S) → a.starts ≤ end → after s a.what ≡ Some t → ⊥) →
-        IsGrownBy after end old old (PlacesAt after end s rest q) (IsOneLess rest)
-    grows_unplaced old q a at never = grows_not old (PlacesAt after end s rest q) (IsOneLess rest) none
+    -- what one operation leaves is put among them
+    grown_put : (old new : List (Remainder S W)) (t : S) (less : List (Operation W)) → IsLeftBy after end s rest t less →
+        IsPutAmong after end old t less new → IsGrownBy after end s rest old new
+    grown_put old new t less left put = record { still = put.still; from = from }
       where
-        none : (future : List (Operation W)) (last : ℕ) → PlacesAt after end s rest q future last → ⊥
-        none future last (b, u, bt, bb, bs, h) =
-            let same : b ≡ a = same_Some b a (sym bt ∙ at) in
-            let began : b.starts ≡ a.starts = ap (λ (z : Operation W). z.starts) same in
-            never u (omega (arith, bb, began)) (ap (λ (z : Operation W). after s z.what) (sym same) ∙ bs)
+        from : (i : ℕ) (one : Remainder S W) → slice_get new i ≡ Some one →
+            (slice_get old i ≡ Some one) ⊎ IsLeftBy after end s rest one.state one.rest.items
+        from i one e = elim (put.from i one e) [
+          | inl was ↦ inl was
+          | inr x ↦
+              let P : S → Type 0 = λ z. IsLeftBy after end s rest z one.rest.items in
+              let Q : List (Operation W) → Type 0 = λ z. IsLeftBy after end s rest t z in
+              inr (subst P (sym x.0) (subst Q (sym x.1) left))
+        ]
 
-    -- one is left out, or can't be
-    pub grows_left_out : (old new : List (Remainder S W)) (p : ℕ) (o : Operation W) → slice_get rest p ≡ Some o → o.maybe ≡ true →
-        IsPutAmong after old s (removed p rest) new →
-        IsGrownBy after end old new (LeavesOut after s rest p) (IsOneLess rest)
-    grows_left_out old new p o at may put =
-        grows_as old new (StaysLawful after s (removed p rest)) (LeavesOut after s rest p) (λ r. r ≡ removed p rest) (IsOneLess rest)
-        (grows_put old s (removed p rest) new put) (λ future last is h. (o, at, may, h)) (λ future last is h. h.3)
-        (less p (slice_get_within rest p o at))
+    module _ (old new : List (Remainder S W)) (q : ℕ) (a : Operation W) (at : slice_get rest q ≡ Some a) where
+      pub grown_placed : (t : S) → a.starts ≤ end → after s a.what ≡ Some t → IsPutAmong after end old t (removed q rest) new →
+          IsGrownBy after end s rest old new
+      grown_placed t began step put = grown_put old new t (removed q rest) (inl (q, a, at, began, step, refl)) put
 
-    pub grows_kept_in : (old : List (Remainder S W)) (p : ℕ) (o : Operation W) → slice_get rest p ≡ Some o → (o.maybe ≡ true → ⊥) →
-        IsGrownBy after end old old (LeavesOut after s rest p) (IsOneLess rest)
-    grows_kept_in old p o at isnt = grows_not old (LeavesOut after s rest p) (IsOneLess rest)
-        (λ future last h. (let same = same_Some h.0 o (sym h.1 ∙ at) in isnt (ap (λ (z : Operation W). z.maybe) (sym same) ∙ h.2)))
+      pub is_placed : (t : S) → after s a.what ≡ Some t → IsPutAmong after end old t (removed q rest) new →
+          IsPlacedIn after end s rest q new
+      is_placed t step put b u bt began bs =
+          let same : b ≡ a = same_Some b a (sym bt ∙ at) in
+          let f : after s a.what ≡ Some u = ap (λ (z : Operation W). after s z.what) (sym same) ∙ bs in
+          let it : u ≡ t = same_Some u t (sym f ∙ step) in
+          subst (λ z. IsHeldWithSpare after end new z (removed q rest)) (sym it) put.covered
+
+      pub not_placed : ((t : S) → a.starts ≤ end → after s a.what ≡ Some t → ⊥) → IsPlacedIn after end s rest q new
+      not_placed never b u bt bb bs =
+          let same : b ≡ a = same_Some b a (sym bt ∙ at) in
+          let began : b.starts ≡ a.starts = ap (λ (z : Operation W). z.starts) same in
+          absurd (never u (omega (arith, bb, began)) (ap (λ (z : Operation W). after s z.what) (sym same) ∙ bs))
+
+      pub grown_left_out : a.ends ≡ Some end → a.maybe ≡ true → IsPutAmong after end old s (removed q rest) new →
+          IsGrownBy after end s rest old new
+      grown_left_out ends may put = grown_put old new s (removed q rest) (inr (q, a, at, ends, may, refl, refl)) put
+
+      pub not_left_out : (a.maybe ≡ true → ⊥) → IsLeftOutIn after end s rest q new
+      not_left_out isnt o ot may =
+          let same : o ≡ a = same_Some o a (sym ot ∙ at) in
+          absurd (isnt (ap (λ (z : Operation W). z.maybe) (sym same) ∙ may))
 
     -- the first ones are tried
-    pub grows_by_none : (old new : List (Remainder S W)) (p : ℕ) →
-        IsGrownBy after end old new (LeavesOut after s rest p) (IsOneLess rest) →
-        IsGrownBy after end old new (IsLawfulByOne after end s rest p 0) (IsOneLess rest)
-    grows_by_none old new p h = grows_as old new (LeavesOut after s rest p) (IsLawfulByOne after end s rest p 0) (IsOneLess rest)
-        (IsOneLess rest) h (λ future last is x. inl x) back (λ r l. l)
-      where
-        back : (future : List (Operation W)) (last : ℕ) → IsFuture end last future → IsLawfulByOne after end s rest p 0 future last →
-            LeavesOut after s rest p future last
-        back future last is (inl x) = x
-        back future last is (inr x) = let l = x.1 in absurd (omega (arith, l))
+    pub tried_none : (new : List (Remainder S W)) (p : ℕ) → IsLeftOutIn after end s rest p new → AreAllTried after end s rest p 0 new
+    tried_none new p h = (h, λ q l. absurd (omega (arith, l)))
 
-    pub grows_by_more : (old mid new : List (Remainder S W)) (p n : ℕ) →
-        IsGrownBy after end old mid (IsLawfulByOne after end s rest p n) (IsOneLess rest) →
-        IsGrownBy after end mid new (PlacesAt after end s rest n) (IsOneLess rest) →
-        IsGrownBy after end old new (IsLawfulByOne after end s rest p (n + 1)) (IsOneLess rest)
-    grows_by_more old mid new p n g h =
-        grows_as old new (λ future last. IsLawfulByOne after end s rest p n future last ⊎ PlacesAt after end s rest n future last)
-        (IsLawfulByOne after end s rest p (n + 1)) (IsOneLess rest) (IsOneLess rest)
-        (grows_then old mid new (IsLawfulByOne after end s rest p n) (PlacesAt after end s rest n) (IsOneLess rest) g h) onward back
-        (λ r l. l)
+    pub tried_more : (old new : List (Remainder S W)) (p n : ℕ) → AreAllTried after end s rest p n old →
+        IsGrownBy after end s rest old new →
+        IsTriedIn after end s rest n new → AreAllTried after end s rest p (n + 1) new
+    tried_more old new p n h g placed = ((still_tried old new g.still s rest p n h).0, each)
       where
-        onward : (future : List (Operation W)) (last : ℕ) → IsFuture end last future →
-            IsLawfulByOne after end s rest p n future last ⊎ PlacesAt after end s rest n future last →
-            IsLawfulByOne after end s rest p (n + 1) future last
-        onward future last is (inl (inl x)) = inl x
-        onward future last is (inl (inr (q, l, x))) = inr (q, omega (arith, l), x)
-        onward future last is (inr x) = inr (n, omega arith, x)
-
-        back : (future : List (Operation W)) (last : ℕ) → IsFuture end last future → IsLawfulByOne after end s rest p (n + 1) future last →
-            IsLawfulByOne after end s rest p n future last ⊎ PlacesAt after end s rest n future last
-        back future last is (inl x) = inl (inl x)
-        back future last is (inr (q, l, x)) = elim (cases_lt q n) [
-          | inl less ↦ inl (inr (q, less, x))
+        each : (q : ℕ) → q < n + 1 → IsTriedIn after end s rest q new
+        each q l = elim (cases_lt q n) [
+          | inl less ↦ (still_tried old new g.still s rest p n h).1 q less
           | inr le ↦
-              let e : q ≡ n = omega (arith, l, le) in
-              inr (subst (λ z. PlacesAt after end s rest z future last) e x)
+              let e : n ≡ q = omega (arith, l, le) in
+              subst (λ z. IsTriedIn after end s rest z new) e placed
         ]
 
-    -- all of them are
-    module _ (ahead : IsAhead end rest) (p : ℕ) (ends : IsEndingAt rest end p) where
-      pub grows_explored : (old new : List (Remainder S W)) →
-          IsGrownBy after end old new (IsLawfulByOne after end s rest p (length rest)) (IsOneLess rest) →
-          IsGrownBy after end old new (StaysLawful after s rest) (IsOneLess rest)
-      grows_explored old new h =
-          grows_as old new (IsLawfulByOne after end s rest p (length rest)) (StaysLawful after s rest) (IsOneLess rest) (IsOneLess rest) h
-          onward back (λ r l. l)
-        where
-          onward : (future : List (Operation W)) (last : ℕ) → IsFuture end last future →
-              IsLawfulByOne after end s rest p (length rest) future last →
-              IsLawfulWith after future last s rest
-          onward future last is (inl (o, at, may, x)) =
-              let same = same_Some o ends.0 (sym at ∙ ends.1) in
-              (goes_by_end after end last future is s rest ahead p ends.0 ends.1 ends.2).1
-              (inl (ap (λ (z : Operation W). z.maybe) (sym same) ∙ may, x))
-          onward future last is (inr (q, l, x)) =
-              (goes_by_end after end last future is s rest ahead p ends.0 ends.1 ends.2).1 (inr (q, x.0, x.1, x.2, x.3, x.4, x.5))
+    -- it leads on
+    module _ (old new : List (Remainder S W)) (p : ℕ) (ends : IsEndingAt rest end p) (g : IsGrownBy after end s rest old new) where
+      pub led_by_pure : (q : ℕ) → IsPureAt after end s rest q → IsPlacedIn after end s rest q new → IsLedOn after end s rest old new
+      led_by_pure q pure placed = record { grown = g; handled = λ kept. Places p q ends pure placed }
 
-          back : (future : List (Operation W)) (last : ℕ) → IsFuture end last future → IsLawfulWith after future last s rest →
-              IsLawfulByOne after end s rest p (length rest) future last
-          back future last is x = elim ((goes_by_end after end last future is s rest ahead p ends.0 ends.1 ends.2).0 x) [
-            | inl h ↦ inl (ends.0, ends.1, h.0, h.1)
-            | inr h ↦ inr (h.0, slice_get_within rest h.0 h.1 h.3, (h.1, h.2, h.3, h.4, h.5, h.6))
-          ]
+      pub led_by_all : AreAllTried after end s rest p (length rest) new → IsLedOn after end s rest old new
+      led_by_all tried = record { grown = g; handled = λ kept. Tries p ends tried }
 
-      pub grows_pure : (old new : List (Remainder S W)) (q : ℕ) → IsPureAt after end s rest q →
-          IsGrownBy after end old new (PlacesAt after end s rest q) (IsOneLess rest) →
-          IsGrownBy after end old new (StaysLawful after s rest) (IsOneLess rest)
-      grows_pure old new q (a, at, can) h =
-          grows_as old new (PlacesAt after end s rest q) (StaysLawful after s rest) (IsOneLess rest) (IsOneLess rest) h
-          (λ future last is x. (goes_by_end after end last future is s rest ahead p ends.0 ends.1 ends.2).1
-          (inr (q, x.0, x.1, x.2, x.3, x.4, x.5)))
-          (λ future last is x. (
-            a,
-            can.2.0,
-            at,
-            can.0,
-            can.2.1,
-            (goes_by_pure after end last future is s rest ahead p ends.0 ends.1 ends.2 q a can.2.0 at can.0 can.1 can.2.1).0 x,
-          )) (λ r l. l)
-
-  -- a level is visited, one after the other
-  module _ (level : List (Remainder S W)) where
-    pub visited_none : (kept : List (Remainder S W)) (next : List (Remainder S W)) →
-        ((i : ℕ) (one : Remainder S W) → slice_get next i ≡ Some one → ⊥) →
-        AreVisited after end 0 level next kept kept
-    visited_none kept next none = record {
-      goes = λ future last is. (onward future last, back future last);
-      next_from = λ i one at. absurd (none i one at);
-      kept_from = λ i one at. inl (i, at);
+    -- one is visited
+    pub visited_led : (seen seen' kept : List (Remainder S W)) (p : ℕ) → IsEndingAt rest end p → IsLedOn after end s rest seen seen' →
+        IsLookedInto after end s rest seen kept seen' kept
+    visited_led seen seen' kept p ends h = record {
+      seen_still = h.grown.still;
+      seen_from = from;
+      kept_still = λ i one e. e;
+      kept_from = λ i one e. inl e;
+      handled = h.handled kept;
     }
       where
-        onward : (future : List (Operation W)) (last : ℕ) → AnyLawfulWith after future last next ⊎ AnyLawfulWith after future last kept →
-            AnyLawfulWith after future last kept ⊎ AnyBelow after 0 level future last
-        onward future last (inl x) = absurd (none x.0 x.1 x.2)
-        onward future last (inr x) = inl x
+        from : (i : ℕ) (one : Remainder S W) → slice_get seen' i ≡ Some one → (slice_get seen i ≡ Some one)
+            ⊎ (((r : ℕ) × IsEndingAt rest end r) × IsLeftBy after end s rest one.state one.rest.items)
+        from i one e = elim (h.grown.from i one e) [
+          | inl was ↦ inl was
+          | inr x ↦ inr ((p, ends), x)
+        ]
 
-        back : (future : List (Operation W)) (last : ℕ) → AnyLawfulWith after future last kept ⊎ AnyBelow after 0 level future last →
-            AnyLawfulWith after future last next ⊎ AnyLawfulWith after future last kept
-        back future last (inl x) = inr x
-        back future last (inr x) = let l = x.2 in absurd (omega (arith, l))
-
-    pub visited_more : (n : ℕ) (by : Remainder S W) → slice_get level n ≡ Some by → (next kept old next' kept' : List (Remainder S W)) →
-        AreVisited after end n level next old kept → IsLedOn after end by.state by.rest.items next kept next' kept' →
-        AreVisited after end (n + 1) level next' old kept'
-    visited_more n by at next kept old next' kept' h (inl (g, same)) = record {
-      goes = λ future last is. (onward future last is, back future last is);
-      next_from = next_from;
-      kept_from = λ i one e. h.kept_from i one (subst (λ z. slice_get z i ≡ Some one) same e);
+    pub visited_kept : (seen kept kept' : List (Remainder S W)) → IsEnding rest end None → IsPutAmong after end kept s rest kept' →
+        IsLookedInto after end s rest seen kept seen kept'
+    visited_kept seen kept kept' none put = record {
+      seen_still = λ i one e. e;
+      seen_from = λ i one e. inl e;
+      kept_still = put.still;
+      kept_from = from;
+      handled = Keeps none put.covered;
     }
       where
-        onward : (future : List (Operation W)) (last : ℕ) → IsFuture end last future →
-            AnyLawfulWith after future last next' ⊎ AnyLawfulWith after future last kept' →
-            AnyLawfulWith after future last old ⊎ AnyBelow after (n + 1) level future last
-        onward future last is (inl x) = elim ((g.goes future last is).0 x) [
-          | inl a ↦ further after n level future last old ((h.goes future last is).0 (inl a))
-          | inr b ↦ inr (n, by, omega arith, at, b)
-        ]
-        onward future last is (inr x) =
-            further after n level future last old ((h.goes future last is).0 (inr (subst (AnyLawfulWith after future last) same x)))
-
-        back : (future : List (Operation W)) (last : ℕ) → IsFuture end last future →
-            AnyLawfulWith after future last old ⊎ AnyBelow after (n + 1) level future last →
-            AnyLawfulWith after future last next' ⊎ AnyLawfulWith after future last kept'
-        back future last is x = elim (nearer after n level future last old by at x) [
-          | inl a ↦ elim ((h.goes future last is).1 a) [
-            | inl b ↦ inl ((g.goes future last is).1 (inl b))
-            | inr b ↦ inr (subst (AnyLawfulWith after future last) (sym same) b)
-          ]
-          | inr b ↦ inl ((g.goes future last is).1 (inr b))
-        ]
-
-        next_from : (i : ℕ) (one : Remainder S W) → slice_get next' i ≡ Some one →
-            (j : ℕ) × (x : Remainder S W) × (slice_get level j ≡ Some x) × IsOneLess x.rest.items one.rest.items
-        next_from i one e = elim (g.from i one e) [
-          | inl a ↦ h.next_from a.0 one a.1
-          | inr b ↦ (n, by, at, b)
-        ]
-    visited_more n by at next kept old next' kept' h (inr (same, none, g)) = record {
-      goes = λ future last is. (onward future last is, back future last is);
-      next_from = λ i one e. h.next_from i one (subst (λ z. slice_get z i ≡ Some one) same e);
-      kept_from = kept_from;
-    }
-      where
-        onward : (future : List (Operation W)) (last : ℕ) → IsFuture end last future →
-            AnyLawfulWith after future last next' ⊎ AnyLawfulWith after future last kept' →
-            AnyLawfulWith after future last old ⊎ AnyBelow after (n + 1) level future last
-        onward future last is (inl x) =
-            further after n level future last old ((h.goes future last is).0 (inl (subst (AnyLawfulWith after future last) same x)))
-        onward future last is (inr x) = elim ((g.goes future last is).0 x) [
-          | inl a ↦ further after n level future last old ((h.goes future last is).0 (inr a))
-          | inr b ↦ inr (n, by, omega arith, at, b)
-        ]
-
-        back : (future : List (Operation W)) (last : ℕ) → IsFuture end last future →
-            AnyLawfulWith after future last old ⊎ AnyBelow after (n + 1) level future last →
-            AnyLawfulWith after future last next' ⊎ AnyLawfulWith after future last kept'
-        back future last is x = elim (nearer after n level future last old by at x) [
-          | inl a ↦ elim ((h.goes future last is).1 a) [
-            | inl b ↦ inl (subst (AnyLawfulWith after future last) (sym same) b)
-            | inr b ↦ inr ((g.goes future last is).1 (inl b))
-          ]
-          | inr b ↦ inr ((g.goes future last is).1 (inr b))
-        ]
-
-        kept_from : (i : ℕ) (one : Remainder S W) → slice_get kept' i ≡ Some one → ((j : ℕ) × (slice_get old j ≡ Some one))
-            ⊎ ((j : ℕ) × (x : Remainder S W) × (slice_get level j ≡ Some x) × (one.rest.items ≡ x.rest.items)
-            × IsEnding x.rest.items end None)
-        kept_from i one e = elim (g.from i one e) [
-          | inl a ↦ h.kept_from a.0 one a.1
-          | inr b ↦ inr (n, by, at, b, none)
+        from : (i : ℕ) (one : Remainder S W) → slice_get kept' i ≡ Some one → (slice_get kept i ≡ Some one)
+            ⊎ (IsEnding rest end None × (one.state ≡ s) × (one.rest.items ≡ rest))
+        from i one e = elim (put.from i one e) [
+          | inl was ↦ inl was
+          | inr x ↦ inr (none, x.0, x.1)
         ]

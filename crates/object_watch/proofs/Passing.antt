@@ -1,32 +1,32 @@
--- From level to level, until nothing is left that ends then.
-use Rattle.std.proofs.Common.{◌≡◌, ℕ, zero, suc, ◌+◌, ◌-◌, ◌<◌, ◌≤◌, List, [], ◌∷◌, length, slice_get, Option, None, Some}
-use Rattle.std.proofs.Common.{refl, sym, ◌∙◌, ap, subst, arith}
-use Rattle.std.proofs.Common.{◌⊎◌, inl, inr, ◌↔◌}
+-- From what is held at an end to what is kept behind it.
+use Rattle.std.proofs.Common.{◌≡◌, ℕ, ◌+◌, ◌<◌, ◌≤◌, List, length, slice_get, get_or, Option, None, Some, sym, ◌∙◌, ap, subst, arith}
+use Rattle.std.proofs.Common.{inl, inr}
 use Rattle.std.proofs.lemmas.Bool.{cases_lt}
-use Rattle.std.proofs.lemmas.Option.{same_Some, slice_get_within}
+use Rattle.std.proofs.lemmas.Option.{same_Some, slice_get_within, slice_get-get_or}
 use Rattle.object_core.specs.declared.operation.Operation.{Operation}
-use Rattle.object_watch.specs.Remainders.{AnyLawfulWith, AreAhead, IsAhead, IsFuture, removed}
+use Rattle.object_watch.specs.Remainders.{AnyLawfulWith, AreAhead, ComesFrom, IsAhead, IsLawfulWith, IsOneOfLog, IsOfOne, removed}
 use Rattle.object_watch.specs.declared.remainder.Remainder.{Remainder}
-use Rattle.object_watch.specs.inner.Levels.{AreLeftBehind, AreVisited, IsEnding, IsOneLess, longest}
+use Rattle.object_watch.specs.inner.Levels.{AreLeftBehind, IsCopiedAt, IsEnding, IsEndingAt, AreStillThere, IsSeenTo, IsLeftBy}
+use Rattle.object_watch.specs.inner.Levels.{IsLookedInto}
+use Rattle.object_watch.proofs.Closed.{closed}
+use Rattle.object_watch.proofs.Going.{goes_by_end}
+use Rattle.object_watch.proofs.Growing.{still_handled}
 use Rattle.object_watch.proofs.Removing.{get_up, up}
-use Rattle.object_watch.proofs.Taking.{one_less}
 
 module _ {W : Type 0} (end : ℕ) where
-  -- what is left of what is ahead
-  pub ahead_less : (rest less : List (Operation W)) → IsAhead end rest → IsOneLess rest less → IsAhead end less
-  ahead_less rest less h l = record { ends = ends; forwards = forwards }
-    where
-      at_up : (i : ℕ) (o : Operation W) → slice_get less i ≡ Some o → slice_get rest (up l.0 i) ≡ Some o
-      at_up i o e = sym (get_up l.0 rest i) ∙ (ap (λ zs. slice_get zs i) (sym l.2) ∙ e)
+  -- what is left of a list
+  left_of : (rest less : List (Operation W)) (q : ℕ) → less ≡ removed q rest → (i : ℕ) (o : Operation W) → slice_get less i ≡ Some o →
+      slice_get rest (up q i) ≡ Some o
+  left_of rest less q l i o e = sym (get_up q rest i) ∙ (ap (λ zs. slice_get zs i) (sym l) ∙ e)
 
-      ends : (p at : ℕ) (o : Operation W) → slice_get less p ≡ Some o → o.ends ≡ Some at → end ≤ at
-      ends p at o e f = h.ends (up l.0 p) at o (at_up p o e) f
+  ahead_less : (rest less : List (Operation W)) (q : ℕ) → less ≡ removed q rest → IsAhead end rest → IsAhead end less
+  ahead_less rest less q l h = record {
+    ends = λ p at o e f. h.ends (up q p) at o (left_of rest less q l p o e) f;
+    forwards = λ p at o e f. h.forwards (up q p) at o (left_of rest less q l p o e) f;
+  }
 
-      forwards : (p at : ℕ) (o : Operation W) → slice_get less p ≡ Some o → o.ends ≡ Some at → o.starts ≤ at
-      forwards p at o e f = h.forwards (up l.0 p) at o (at_up p o e) f
-
-  -- and of what is ahead and doesn't end then
-  pub ahead_later : (rest : List (Operation W)) → IsAhead end rest → IsEnding rest end None → IsAhead (end + 1) rest
+  -- what is ahead and doesn't end then
+  ahead_later : (rest : List (Operation W)) → IsAhead end rest → IsEnding rest end None → IsAhead (end + 1) rest
   ahead_later rest h none = record { ends = ends; forwards = h.forwards }
     where
       ends : (p at : ℕ) (o : Operation W) → slice_get rest p ≡ Some o → o.ends ≡ Some at → end + 1 ≤ at
@@ -37,107 +37,137 @@ module _ {W : Type 0} (end : ℕ) where
             let same : at ≡ end = omega (arith, le, least) in absurd (none p (o, e, f ∙ ap Some same))
       ]
 
-module _ {S W : Type 0} where
-  -- one is no longer than the longest
-  longest_at : (level : List (Remainder S W)) (j : ℕ) (by : Remainder S W) → slice_get level j ≡ Some by →
-      length by.rest.items + 1 ≤ longest level
-  longest_at [] j by e = cc
-  longest_at (x ∷ level) zero by e =
-      let same : x ≡ by = same_Some x by e in
-      let n : length x.rest.items ≡ length by.rest.items = ap (λ (z : Remainder S W). length z.rest.items) same in omega (arith, n)
-  longest_at (x ∷ level) (suc j) by e = let l = longest_at level j by e in omega (arith, l)
-
-  longest_most : (level : List (Remainder S W)) (m : ℕ) →
-      ((i : ℕ) (one : Remainder S W) → slice_get level i ≡ Some one → length one.rest.items + 1 ≤ m) → longest level ≤ m
-  longest_most [] m h = omega arith
-  longest_most (x ∷ level) m h =
-      let a = h 0 x refl in let b = longest_most level m (λ i one e. h (suc i) one e) in omega (arith, a, b)
-
-  -- each level is shorter
-  pub longest_less : (level next : List (Remainder S W)) → 0 < length level →
-      ((i : ℕ) (one : Remainder S W) → slice_get next i ≡ Some one →
-      (j : ℕ) × (by : Remainder S W) × (slice_get level j ≡ Some by) × IsOneLess by.rest.items one.rest.items) →
-      longest next < longest level
-  longest_less level next some h =
-      let top = least level some in
-      let most = longest_most next (longest level - 1) each in omega (arith, top, most)
-    where
-      least : (xs : List (Remainder S W)) → 0 < length xs → 1 ≤ longest xs
-      least [] l = absurd (omega (arith, l))
-      least (x ∷ xs) l = omega arith
-
-      each : (i : ℕ) (one : Remainder S W) → slice_get next i ≡ Some one → length one.rest.items + 1 ≤ longest level - 1
-      each i one e =
-          let f = h i one e in
-          let long = longest_at level f.0 f.1 f.2 in
-          let n = one_less f.3.0 f.1.rest.items f.3.1 in
-          let same : length one.rest.items ≡ length (removed f.3.0 f.1.rest.items) = ap length f.3.2 in omega (arith, long, n, same)
-
--- what a pass keeps
 module _ {S W : Type 0} (after : S → W → Option S) (end : ℕ) (held : List (Remainder S W)) where
-  pub record IsPassing (level kept : List (Remainder S W)) : Type 0 where
-    pub goes : (future : List (Operation W)) (last : ℕ) → IsFuture end last future →
-        ((AnyLawfulWith after future last level ⊎ AnyLawfulWith after future last kept) ↔ AnyLawfulWith after future last held)
-    pub ahead : AreAhead end level
-    pub behind : AreAhead (end + 1) kept
+  -- it is left of what is held: it is ahead, has no other operations, and a lawful order of it begins one of what is held
+  record IsReached (s : S) (rest : List (Operation W)) : Type 0 where
+    ahead : IsAhead end rest
+    of : (o : Operation W) → IsOneOfLog rest o → IsOfOne held o
+    sound : (future : List (Operation W)) (last : ℕ) → ComesFrom (end + 1) last future → IsLawfulWith after future last s rest →
+        AnyLawfulWith after future last held
+
+  reached_first : AreAhead end held → (i : ℕ) (one : Remainder S W) → slice_get held i ≡ Some one → IsReached one.state one.rest.items
+  reached_first ahead i one e = record {
+    ahead = ahead i one e;
+    of = λ o x. (i, one, e, x);
+    sound = λ future last is h. (i, one, e, h);
+  }
+
+  reached_left : (s : S) (rest : List (Operation W)) (t : S) (less : List (Operation W)) (p : ℕ) → IsEndingAt rest end p →
+      IsLeftBy after end s rest t less → IsReached s rest → IsReached t less
+  reached_left s rest t less p ends (inl (q, a, at, began, step, same)) h = record {
+    ahead = ahead_less end rest less q same h.ahead;
+    of = λ o x. h.of o (up q x.0, left_of end rest less q same x.0 o x.1);
+    sound = sound;
+  }
+    where
+      sound : (future : List (Operation W)) (last : ℕ) → ComesFrom (end + 1) last future → IsLawfulWith after future last t less →
+          AnyLawfulWith after future last held
+      sound future last is g =
+          let m : IsLawfulWith after future last t (removed q rest) = subst (IsLawfulWith after future last t) same g in
+          h.sound future last is ((goes_by_end after end last future is s rest h.ahead p ends.0 ends.1 ends.2).1
+          (inr (q, a, t, at, began, step, m)))
+  reached_left s rest t less p ends (inr (q, o, at, ending, may, still, same)) h = record {
+    ahead = ahead_less end rest less q same h.ahead;
+    of = λ o x. h.of o (up q x.0, left_of end rest less q same x.0 o x.1);
+    sound = sound;
+  }
+    where
+      sound : (future : List (Operation W)) (last : ℕ) → ComesFrom (end + 1) last future → IsLawfulWith after future last t less →
+          AnyLawfulWith after future last held
+      sound future last is g =
+          let P : S → Type 0 = λ z. IsLawfulWith after future last z (removed q rest) in
+          let m : IsLawfulWith after future last s (removed q rest) = subst P still (subst (IsLawfulWith after future last t) same g) in
+          h.sound future last is ((goes_by_end after end last future is s rest h.ahead q o at ending).1 (inl (may, m)))
+
+  -- what a pass keeps: those before the n-th are visited
+  pub record IsPassing (n : ℕ) (seen kept : List (Remainder S W)) : Type 0 where
+    start : AreStillThere held seen
+    reached : (i : ℕ) (one : Remainder S W) → slice_get seen i ≡ Some one → IsReached one.state one.rest.items
+    behind : (i : ℕ) (one : Remainder S W) → slice_get kept i ≡ Some one → IsReached one.state one.rest.items
+        × IsEnding one.rest.items end None
+    handled : (i : ℕ) (one : Remainder S W) → i < n → slice_get seen i ≡ Some one →
+        IsSeenTo after end one.state one.rest.items seen kept
 
   pub passing_none : (kept : List (Remainder S W)) → ((i : ℕ) (one : Remainder S W) → slice_get kept i ≡ Some one → ⊥) → AreAhead end held →
-      IsPassing held kept
+      IsPassing 0 held kept
   passing_none kept none ahead = record {
-    goes = λ future last is. (onward future last, λ x. inl x);
-    ahead = ahead;
+    start = λ i one e. e;
+    reached = reached_first ahead;
     behind = λ i one e. absurd (none i one e);
+    handled = λ i one l e. absurd (omega (arith, l));
   }
-    where
-      onward : (future : List (Operation W)) (last : ℕ) → AnyLawfulWith after future last held ⊎ AnyLawfulWith after future last kept →
-          AnyLawfulWith after future last held
-      onward future last (inl x) = x
-      onward future last (inr x) = absurd (none x.0 x.1 x.2)
 
-  pub passing_more : (level next kept kept' : List (Remainder S W)) → IsPassing level kept →
-      AreVisited after end (length level) level next kept kept' → IsPassing next kept'
-  passing_more level next kept kept' h v = record {
+  module _ (n : ℕ) (seen kept seen' kept' : List (Remainder S W)) (h : IsPassing n seen kept) where
+    visited_more : (one : Remainder S W) → slice_get seen n ≡ Some one →
+        IsLookedInto after end one.state one.rest.items seen kept seen' kept' → IsPassing (n + 1) seen' kept'
+    visited_more one at v = record {
+      start = λ i x e. v.seen_still i x (h.start i x e);
+      reached = reached;
+      behind = behind;
+      handled = handled;
+    }
+      where
+        it : IsReached one.state one.rest.items
+        it = h.reached n one at
+
+        reached : (i : ℕ) (x : Remainder S W) → slice_get seen' i ≡ Some x → IsReached x.state x.rest.items
+        reached i x e = elim (v.seen_from i x e) [
+          | inl was ↦ h.reached i x was
+          | inr y ↦ reached_left one.state one.rest.items x.state x.rest.items y.0.0 y.0.1 y.1 it
+        ]
+
+        behind : (i : ℕ) (x : Remainder S W) → slice_get kept' i ≡ Some x → IsReached x.state x.rest.items
+            × IsEnding x.rest.items end None
+        behind i x e = elim (v.kept_from i x e) [
+          | inl was ↦ h.behind i x was
+          | inr y ↦
+              let P : S → Type 0 = λ z. IsReached z x.rest.items in
+              let Q : List (Operation W) → Type 0 = λ z. IsReached one.state z in
+              let R : List (Operation W) → Type 0 = λ z. IsEnding z end None in
+              (subst P (sym y.1) (subst Q (sym y.2) it), subst R (sym y.2) y.0)
+        ]
+
+        handled : (i : ℕ) (x : Remainder S W) → i < n + 1 → slice_get seen' i ≡ Some x →
+            IsSeenTo after end x.state x.rest.items seen' kept'
+        handled i x l e = elim (cases_lt i n) [
+          | inl less ↦
+              let there = slice_get_within seen n one at in
+              let was : (y : Remainder S W) × (slice_get seen i ≡ Some y) = before i (omega (arith, less, there)) in
+              let same : was.0 ≡ x = same_Some was.0 x (sym (v.seen_still i was.0 was.1) ∙ e) in
+              let P : Remainder S W → Type 0 = λ z. IsSeenTo after end z.state z.rest.items seen' kept' in
+              subst P same (still_handled after end seen seen' kept kept' v.seen_still v.kept_still was.0.state was.0.rest.items
+              (h.handled i was.0 less was.1))
+          | inr le ↦
+              let here : i ≡ n = omega (arith, l, le) in
+              let same : one ≡ x = same_Some one x (sym (v.seen_still n one at) ∙ (ap (slice_get seen') (sym here) ∙ e)) in
+              let P : Remainder S W → Type 0 = λ z. IsSeenTo after end z.state z.rest.items seen' kept' in
+              subst P same v.handled
+        ]
+          where
+            before : (j : ℕ) → j < length seen → (y : Remainder S W) × (slice_get seen j ≡ Some y)
+            before j less = (get_or seen j one, slice_get-get_or seen j one less)
+
+    pub passing_more : (copy : Remainder S W) → IsCopiedAt seen n copy →
+        IsLookedInto after end copy.state copy.rest.items seen kept seen' kept' → IsPassing (n + 1) seen' kept'
+    passing_more copy (one, at, is_state, is_rest) v =
+        let P : S → Type 0 = λ z. IsLookedInto after end z copy.rest.items seen kept seen' kept' in
+        let Q : List (Operation W) → Type 0 = λ z. IsLookedInto after end one.state z seen kept seen' kept' in
+        visited_more one at (subst Q is_rest (subst P is_state v))
+
+  pub passing_all : (n : ℕ) (seen kept : List (Remainder S W)) → IsPassing n seen kept → length seen ≤ n → AreLeftBehind after end held kept
+  passing_all n seen kept h all = record {
     goes = λ future last is. (onward future last is, back future last is);
-    ahead = ahead;
-    behind = behind;
+    ahead = λ i one e. ahead_later end one.rest.items (h.behind i one e).0.ahead (h.behind i one e).1;
+    of = λ o x. (h.behind x.0 x.1 x.2).0.of o x.3;
   }
     where
-      onward : (future : List (Operation W)) (last : ℕ) → IsFuture end last future →
-          AnyLawfulWith after future last next ⊎ AnyLawfulWith after future last kept' → AnyLawfulWith after future last held
-      onward future last is x = elim ((v.goes future last is).0 x) [
-        | inl a ↦ (h.goes future last is).0 (inr a)
-        | inr b ↦ (h.goes future last is).0 (inl (b.0, b.1, b.3, b.4))
-      ]
-
-      back : (future : List (Operation W)) (last : ℕ) → IsFuture end last future → AnyLawfulWith after future last held →
-          AnyLawfulWith after future last next ⊎ AnyLawfulWith after future last kept'
-      back future last is x = elim ((h.goes future last is).1 x) [
-        | inl a ↦ (v.goes future last is).1 (inr (a.0, a.1, slice_get_within level a.0 a.1 a.2, a.2, a.3))
-        | inr b ↦ (v.goes future last is).1 (inl b)
-      ]
-
-      ahead : AreAhead end next
-      ahead i one e =
-          let f = v.next_from i one e in
-          ahead_less end f.1.rest.items one.rest.items (h.ahead f.0 f.1 f.2) f.3
-
-      behind : AreAhead (end + 1) kept'
-      behind i one e = elim (v.kept_from i one e) [
-        | inl a ↦ h.behind a.0 one a.1
-        | inr b ↦
-            subst (IsAhead (end + 1)) (sym b.3) (ahead_later end b.1.rest.items (h.ahead b.0 b.1 b.2) b.4)
-      ]
-
-  pub passing_all : (level kept : List (Remainder S W)) → IsPassing level kept → length level ≤ 0 → AreLeftBehind after end held kept
-  passing_all level kept h none = record { goes = λ future last is. (onward future last is, back future last is); ahead = h.behind }
-    where
-      onward : (future : List (Operation W)) (last : ℕ) → IsFuture end last future → AnyLawfulWith after future last kept →
+      onward : (future : List (Operation W)) (last : ℕ) → ComesFrom (end + 1) last future → AnyLawfulWith after future last kept →
           AnyLawfulWith after future last held
-      onward future last is x = (h.goes future last is).0 (inr x)
+      onward future last is x = (h.behind x.0 x.1 x.2).0.sound future last is x.3
 
-      back : (future : List (Operation W)) (last : ℕ) → IsFuture end last future → AnyLawfulWith after future last held →
+      back : (future : List (Operation W)) (last : ℕ) → ComesFrom (end + 1) last future → AnyLawfulWith after future last held →
           AnyLawfulWith after future last kept
-      back future last is x = elim ((h.goes future last is).1 x) [
-        | inl a ↦ let l = slice_get_within level a.0 a.1 a.2 in absurd (omega (arith, l, none))
-        | inr b ↦ b
-      ]
+      back future last is x =
+          closed after end future last is seen kept (λ i one e. (h.reached i one e).ahead)
+          (λ i one e. h.handled i one (let l = slice_get_within seen i one e in omega (arith, l, all)) e)
+          (x.0, x.1, h.start x.0 x.1 x.2, x.3)

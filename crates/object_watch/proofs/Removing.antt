@@ -3,10 +3,11 @@ use Rattle.std.proofs.Common.{◌≡◌, ◌≢◌, ℕ, zero, suc, ◌+◌, ◌
 use Rattle.std.proofs.Common.{slice_get, Option, None, Some, refl, sym, ◌∙◌, ap, subst, arith, inl, inr}
 use Rattle.std.proofs.lemmas.Bool.{cases_eq, cases_lt}
 use Rattle.std.proofs.lemmas.Bool.Decides.{nat_tests}
+use Rattle.std.proofs.lemmas.Option.{same_Some}
 use Rattle.history_core.specs.Orders.{times_of}
 use Rattle.object_core.specs.declared.operation.Operation.{Operation}
-use Rattle.object_core.specs.Logs.{CanMake, is_due, IsLinearizable, KeepsPrecedence, MayStand, NonePrecedes}
-use Rattle.object_sweep.specs.Rests.{CanFinish, MayStandBehind}
+use Rattle.object_core.specs.Logs.{CanMake, is_due, IsLawfulOrder, IsLinearizable, KeepsPrecedence, MayStand, NonePrecedes}
+use Rattle.object_sweep.specs.Rests.{CanFinish, IsRest, MayStandBehind}
 use Rattle.object_sweep.proofs.Placed.{other_number, same_number, times_here, times_there}
 use Rattle.object_watch.specs.Remainders.{removed}
 
@@ -140,36 +141,37 @@ module _ {S W : Type 0} (after : S → W → Option S) (log : List (Operation W)
           let times = times_up q r xs in
           h.0 (up q r) a b (omega (arith, stood, times)) (sym (get_up q log r) ∙ ra) (sym (get_up q log x) ∙ xb)
 
-  -- the log without it, and the log in which it isn't placed any more
-  pub removed_rest : (s : S) → CanFinish after log (λ r. nat_eq r q) s → IsLinearizable after s (removed q log)
-  removed_rest s h = (order, record { listing = listing; precedence = kept_down order precedence; steps = made_down s order steps })
+  -- an order of the log without it, and of the log in which it isn't placed any more
+  pub lowered : (s : S) (rest : List ℕ) → IsRest after log (λ r. nat_eq r q) s rest →
+      IsLawfulOrder after s (removed q log) (map (down q) rest)
+  lowered s rest h = record { listing = listing; precedence = kept_down order precedence; steps = made_down s order steps }
     where
       gone : (b due : Bool) (times : ℕ) → b ≡ true → MayStandBehind b due times → times ≡ 0
       gone true due times e m = m
       gone false due times e m = cc
 
-      none : (m : Option (Operation W)) → slice_get log q ≡ m → times_of q h.0 ≡ 0
-      none None e = never s h.0 h.1.steps
+      none : (m : Option (Operation W)) → slice_get log q ≡ m → times_of q rest ≡ 0
+      none None e = never s rest h.steps
         where
-          never : (t : S) (rest : List ℕ) → CanMake after log t rest → times_of q rest ≡ 0
+          never : (t : S) (xs : List ℕ) → CanMake after log t xs → times_of q xs ≡ 0
           never t [] can = refl
           never t (x ∷ xs) can = elim (cases_eq x q) [
             | inl f ↦ let g : None ≡ Some can.0 = sym e ∙ (ap (slice_get log) (sym f) ∙ can.2) in cc
             | inr ne ↦ times_there q x xs ne ∙ never can.1 xs can.4
           ]
-      none (Some o) e = gone (nat_eq q q) (is_due o) (times_of q h.0) (same_number q) (h.1.listing q o e)
+      none (Some o) e = gone (nat_eq q q) (is_due o) (times_of q rest) (same_number q) (h.listing q o e)
 
       order : List ℕ
-      order = map (down q) h.0
+      order = map (down q) rest
 
-      whole : map (up q) order ≡ h.0
-      whole = all_up q h.0 (none (slice_get log q) refl)
+      whole : map (up q) order ≡ rest
+      whole = all_up q rest (none (slice_get log q) refl)
 
       precedence : KeepsPrecedence log (map (up q) order)
-      precedence = subst (KeepsPrecedence log) (sym whole) h.1.precedence
+      precedence = subst (KeepsPrecedence log) (sym whole) h.precedence
 
       steps : CanMake after log s (map (up q) order)
-      steps = subst (CanMake after log s) (sym whole) h.1.steps
+      steps = subst (CanMake after log s) (sym whole) h.steps
 
       free : (b due : Bool) (times : ℕ) → b ≡ false → MayStandBehind b due times → MayStand due times
       free true due times e m = cc
@@ -177,14 +179,14 @@ module _ {S W : Type 0} (after : S → W → Option S) (log : List (Operation W)
 
       listing : (i : ℕ) (o : Operation W) → slice_get (removed q log) i ≡ Some o → MayStand (is_due o) (times_of i order)
       listing i o at =
-          let m = h.1.listing (up q i) o (sym (get_up q log i) ∙ at) in
-          let n = free (nat_eq (up q i) q) (is_due o) (times_of (up q i) h.0) (other_number (up q i) q (up_other q i)) m in
-          let times : times_of (up q i) h.0 ≡ times_of i order = ap (times_of (up q i)) (sym whole) ∙ times_up q i order in
+          let m = h.listing (up q i) o (sym (get_up q log i) ∙ at) in
+          let n = free (nat_eq (up q i) q) (is_due o) (times_of (up q i) rest) (other_number (up q i) q (up_other q i)) m in
+          let times : times_of (up q i) rest ≡ times_of i order = ap (times_of (up q i)) (sym whole) ∙ times_up q i order in
           subst (MayStand (is_due o)) times n
 
-  pub rest_removed : (s : S) → IsLinearizable after s (removed q log) → CanFinish after log (λ r. nat_eq r q) s
-  rest_removed s h =
-      (map (up q) h.0, record { listing = listing; precedence = kept_up h.0 h.1.precedence; steps = made_up s h.0 h.1.steps })
+  pub raised : (s : S) (order : List ℕ) → IsLawfulOrder after s (removed q log) order →
+      IsRest after log (λ r. nat_eq r q) s (map (up q) order)
+  raised s order h = record { listing = listing; precedence = kept_up order h.precedence; steps = made_up s order h.steps }
     where
       shut : (b due : Bool) (times : ℕ) → b ≡ true → times ≡ 0 → MayStandBehind b due times
       shut true due times e z = z
@@ -194,17 +196,69 @@ module _ {S W : Type 0} (after : S → W → Option S) (log : List (Operation W)
       free true due times e m = cc
       free false due times e m = m
 
-      listing : (p : ℕ) (o : Operation W) → slice_get log p ≡ Some o → MayStandBehind (nat_eq p q) (is_due o) (times_of p (map (up q) h.0))
+      listing : (p : ℕ) (o : Operation W) → slice_get log p ≡ Some o →
+          MayStandBehind (nat_eq p q) (is_due o) (times_of p (map (up q) order))
       listing p o at = elim (cases_eq p q) [
         | inl e ↦
             let b : nat_eq p q ≡ true = ap (λ z. nat_eq z q) e ∙ same_number q in
-            let z : times_of p (map (up q) h.0) ≡ 0 = ap (λ y. times_of y (map (up q) h.0)) e ∙ times_gap q h.0 in
-            shut (nat_eq p q) (is_due o) (times_of p (map (up q) h.0)) b z
+            let z : times_of p (map (up q) order) ≡ 0 = ap (λ y. times_of y (map (up q) order)) e ∙ times_gap q order in
+            shut (nat_eq p q) (is_due o) (times_of p (map (up q) order)) b z
         | inr ne ↦
             let is : up q (down q p) ≡ p = up_down q p ne in
             let there : slice_get (removed q log) (down q p) ≡ Some o = get_up q log (down q p) ∙ (ap (slice_get log) is ∙ at) in
-            let m = h.1.listing (down q p) o there in
-            let times : times_of (down q p) h.0 ≡ times_of p (map (up q) h.0) =
-            sym (times_up q (down q p) h.0) ∙ ap (λ z. times_of z (map (up q) h.0)) is in
-            free (nat_eq p q) (is_due o) (times_of p (map (up q) h.0)) (other_number p q ne) (subst (MayStand (is_due o)) times m)
+            let m = h.listing (down q p) o there in
+            let times : times_of (down q p) order ≡ times_of p (map (up q) order) =
+            sym (times_up q (down q p) order) ∙ ap (λ z. times_of z (map (up q) order)) is in
+            free (nat_eq p q) (is_due o) (times_of p (map (up q) order)) (other_number p q ne) (subst (MayStand (is_due o)) times m)
+      ]
+
+  -- the log without it, and the log in which it isn't placed any more
+  pub removed_rest : (s : S) → CanFinish after log (λ r. nat_eq r q) s → IsLinearizable after s (removed q log)
+  removed_rest s h = (map (down q) h.0, lowered s h.0 h.1)
+
+  pub rest_removed : (s : S) → IsLinearizable after s (removed q log) → CanFinish after log (λ r. nat_eq r q) s
+  rest_removed s h = (map (up q) h.0, raised s h.0 h.1)
+
+  -- where it never stands, it need not be placed any more
+  pub shut_out : (s : S) (order : List ℕ) → IsLawfulOrder after s log order → times_of q order ≡ 0 →
+      IsRest after log (λ r. nat_eq r q) s order
+  shut_out s order h none = record { listing = listing; precedence = h.precedence; steps = h.steps }
+    where
+      shut : (b due : Bool) (times : ℕ) → b ≡ true → times ≡ 0 → MayStandBehind b due times
+      shut true due times e z = z
+      shut false due times e z = cc
+
+      free : (b due : Bool) (times : ℕ) → b ≡ false → MayStand due times → MayStandBehind b due times
+      free true due times e m = cc
+      free false due times e m = m
+
+      listing : (p : ℕ) (o : Operation W) → slice_get log p ≡ Some o → MayStandBehind (nat_eq p q) (is_due o) (times_of p order)
+      listing p o at = elim (cases_eq p q) [
+        | inl e ↦
+            let b : nat_eq p q ≡ true = ap (λ z. nat_eq z q) e ∙ same_number q in
+            shut (nat_eq p q) (is_due o) (times_of p order) b (ap (λ z. times_of z order) e ∙ none)
+        | inr ne ↦ free (nat_eq p q) (is_due o) (times_of p order) (other_number p q ne) (h.listing p o at)
+      ]
+
+  -- and where it isn't due, it may as well be placed
+  pub let_in : (o : Operation W) → slice_get log q ≡ Some o → is_due o ≡ false → (s : S) (rest : List ℕ) →
+      IsRest after log (λ r. nat_eq r q) s rest → IsLawfulOrder after s log rest
+  let_in o at unsure s rest h = record { listing = listing; precedence = h.precedence; steps = h.steps }
+    where
+      at_most : (b due : Bool) (times : ℕ) → b ≡ true → due ≡ false → MayStandBehind b due times → MayStand due times
+      at_most true true times e d m = cc
+      at_most true false times e d m = omega (arith, m)
+      at_most false due times e d m = cc
+
+      free : (b due : Bool) (times : ℕ) → b ≡ false → MayStandBehind b due times → MayStand due times
+      free true due times e m = cc
+      free false due times e m = m
+
+      listing : (p : ℕ) (a : Operation W) → slice_get log p ≡ Some a → MayStand (is_due a) (times_of p rest)
+      listing p a pa = elim (cases_eq p q) [
+        | inl e ↦
+            let b : nat_eq p q ≡ true = ap (λ z. nat_eq z q) e ∙ same_number q in
+            let same : o ≡ a = same_Some o a (sym at ∙ (ap (slice_get log) (sym e) ∙ pa)) in
+            at_most (nat_eq p q) (is_due a) (times_of p rest) b (ap is_due (sym same) ∙ unsure) (h.listing p a pa)
+        | inr ne ↦ free (nat_eq p q) (is_due a) (times_of p rest) (other_number p q ne) (h.listing p a pa)
       ]

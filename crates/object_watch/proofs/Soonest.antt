@@ -7,7 +7,8 @@ use Rattle.std.proofs.lemmas.Option.{same_Some, slice_get_within}
 use Rattle.object_core.specs.declared.operation.Operation.{Operation}
 use Rattle.object_watch.specs.Remainders.{AreAhead}
 use Rattle.object_watch.specs.declared.remainder.Remainder.{Remainder}
-use Rattle.object_watch.specs.inner.Levels.{end_or, HasEnd, IsEndingAt, IsSoonerOf, IsSoonestBelow, sooner_end, soonest, soonest_of}
+use Rattle.object_watch.specs.inner.Levels.{end_or, HasEnd, IsEndingAt, IsSoonerOf, IsSoonestBelow, NoneIsOverBefore, sooner_end, soonest}
+use Rattle.object_watch.specs.inner.Levels.{soonest_of}
 
 -- of two ends
 sooner_first : (last : ℕ) (a b : Option ℕ) → end_or last (sooner_end last a b) ≤ end_or last a
@@ -97,7 +98,6 @@ module _ {S W : Type 0} (last : ℕ) (held : List (Remainder S W)) where
   pub soonest_none : IsSoonestBelow last 0 held None
   soonest_none = record {
     lower = λ i p at one o l e f g. absurd (omega (arith, l));
-    most = omega arith;
     has = λ at e. cc;
   }
 
@@ -105,7 +105,6 @@ module _ {S W : Type 0} (last : ℕ) (held : List (Remainder S W)) where
       IsSoonerOf last (length one.rest.items) one.rest.items end end' → IsSoonestBelow last (n + 1) held end'
   soonest_more n one at end end' h s = record {
     lower = lower;
-    most = (let a = s.below in let b = h.most in omega (arith, a, b));
     has = has;
   }
     where
@@ -130,6 +129,13 @@ module _ {S W : Type 0} (last : ℕ) (held : List (Remainder S W)) where
             let P : ℕ → Type 0 = λ z. IsEndingAt one.rest.items z x.0 in
             ((n, one, x.0, at, subst P same x.2), omega (arith, same, l))
       ]
+
+  -- no end is sooner
+  pub soonest_first : (end : ℕ) → IsSoonestBelow last (length held) held (Some end) → NoneIsOverBefore end held
+  soonest_first end h i p at one o e f g = h.lower i p at one o (slice_get_within held i one e) e f g
+
+  pub soonest_ends : IsSoonestBelow last (length held) held None → NoneIsOverBefore (last + 1) held
+  soonest_ends h i p at one o e f g = h.lower i p at one o (slice_get_within held i one e) e f g
 
 -- of one list
 module _ {W : Type 0} (last : ℕ) where

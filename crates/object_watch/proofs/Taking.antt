@@ -1,9 +1,11 @@
 -- Lists without one entry.
-use Rattle.std.proofs.Common.{◌≡◌, ℕ, zero, suc, ◌+◌, ◌-◌, ◌<◌, List, [], ◌∷◌, ◌++◌, length, take, drop, refl, ◌∙◌, ap, arith}
+use Rattle.std.proofs.Common.{◌≡◌, ℕ, zero, suc, ◌+◌, ◌-◌, ◌<◌, List, [], ◌∷◌, ◌++◌, length, take, drop, slice_get, Some, refl, ◌∙◌, ap}
+use Rattle.std.proofs.Common.{arith}
+use Rattle.std.proofs.lemmas.Option.{same_Some}
 use Rattle.object_watch.specs.Remainders.{removed}
 
 module _ {X : Type 0} where
-  take_all : (xs : List X) → take (length xs) xs ≡ xs
+  pub take_all : (xs : List X) → take (length xs) xs ≡ xs
   take_all [] = refl
   take_all (x ∷ xs) = ap (λ zs. x ∷ zs) (take_all xs)
 
@@ -18,7 +20,10 @@ module _ {X : Type 0} where
       ap (λ z. take (suc q) (x ∷ xs) ++ take (length (x ∷ xs) - z) (drop z (x ∷ xs))) same
       ∙ (ap (λ z. x ∷ (take q xs ++ take z (drop (q + 1) xs))) n ∙ ap (λ zs. x ∷ zs) (two_parts q xs (omega (arith, l))))
 
-  pub one_less : (q : ℕ) (xs : List X) → q < length xs → length (removed q xs) + 1 ≡ length xs
-  one_less q [] l = absurd (omega (arith, l))
-  one_less zero (x ∷ xs) l = omega arith
-  one_less (suc q) (x ∷ xs) l = let m = one_less q xs (omega (arith, l)) in omega (arith, m)
+  -- one more of the first ones
+  pub take_one_more : (i : ℕ) (xs : List X) (x : X) → slice_get xs i ≡ Some x → take (i + 1) xs ≡ take i xs ++ x ∷ []
+  take_one_more i [] x e = cc
+  take_one_more zero (y ∷ xs) x e = ap (λ z. z ∷ []) (same_Some y x e)
+  take_one_more (suc i) (y ∷ xs) x e =
+      let same : suc i + 1 ≡ suc (i + 1) = omega arith in
+      ap (λ n. take n (y ∷ xs)) same ∙ ap (λ zs. y ∷ zs) (take_one_more i xs x e)

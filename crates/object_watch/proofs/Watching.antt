@@ -8,14 +8,15 @@ use Rattle.std.proofs.lemmas.Option.{same_Some, slice_get_within, slice_get-get_
 use Rattle.object_core.specs.declared.operation.Operation.{Operation}
 use Rattle.object_core.specs.Logs.{IsLinearizable}
 use Rattle.object_sweep.specs.Rests.{RunForwards}
-use Rattle.object_sweep.proofs.Lists.{get_push}
+use Rattle.object_sweep.proofs.Lists.{get_front, get_last, get_push}
 use Rattle.object_sweep.proofs.Whole.{last_end, opened}
-use Rattle.object_watch.specs.Remainders.{AnyLawfulWith, AreAhead, IsAhead, IsFuture, IsLawfulWith, known, known_end}
-use Rattle.object_watch.specs.Watches.{ComesFrom, IsLawfulUntil, IsLostAfter, IsWatchOf}
+use Rattle.object_watch.specs.Remainders.{AnyLawfulWith, AreAhead, ComesFrom, IsLawfulWith, IsOneOfLog, IsOfOne, known, known_end}
+use Rattle.object_watch.specs.Watches.{AreTooManyAt, IsHeldOf, IsLawfulBetween, IsLawfulUntil, IsLostAfter, IsFirstLost}
+use Rattle.object_watch.specs.declared.ends.End.{End}
 use Rattle.object_watch.specs.declared.remainder.Remainder.{Remainder}
-use Rattle.object_watch.specs.declared.watch.Watch.{Watch}
-use Rattle.object_watch.specs.inner.Levels.{AreLeftBehind, AreTaken, end_or, HasEnd, IsSoonestBelow}
+use Rattle.object_watch.specs.inner.Levels.{AreLeftBehind, AreTaken, IsNeedless, IsSoonestEnd, NoneIsOverBefore}
 use Rattle.object_watch.proofs.Going.{of_map}
+use Rattle.object_watch.proofs.Within.{idle_out}
 
 -- what is ahead of a moment is ahead of each sooner one
 pub ahead_at_all : {S W : Type 0} (m n : ℕ) (held : List (Remainder S W)) → m ≤ n → AreAhead n held → AreAhead m held
@@ -23,6 +24,14 @@ ahead_at_all m n held le h i one e = record {
   ends = λ p at o f g. (let l = (h i one e).ends p at o f g in omega (arith, l, le));
   forwards = (h i one e).forwards;
 }
+
+module _ {S W : Type 0} where
+  -- what runs forwards is ahead of each moment before which nothing ends
+  pub none_ahead : (end : ℕ) (held : List (Remainder S W)) → NoneIsOverBefore end held → AreAhead 0 held → AreAhead end held
+  none_ahead end held h a i one e = record { ends = λ p at o f g. h i p at one o e f g; forwards = (a i one e).forwards }
+
+  pub ahead_none : (end : ℕ) (held : List (Remainder S W)) → AreAhead end held → NoneIsOverBefore end held
+  ahead_none end held a i p at one o e f g = (a i one e).ends p at o f g
 
 -- an entry that is put in a place, and the others
 set_here : {X : Type 0} (xs : List X) (i : ℕ) (x : X) → i < length xs → slice_get (set xs i x) i ≡ Some x
@@ -122,21 +131,29 @@ module _ {S W : Type 0} where
 
 module _ {S W : Type 0} (after : S → W → Option S) where
   -- nothing has come yet
-  pub watch_opened : (opening : S) (watch : Watch S W) (one : Remainder S W) → watch.held.items ≡ one ∷ [] → one.state ≡ opening →
-      one.rest.items ≡ [] → IsWatchOf after opening [] 0 watch
-  watch_opened opening watch one is is_state is_rest = record { some = some; ahead = ahead; goes = goes }
+  pub watch_opened : (opening : S) (held : List (Remainder S W)) (one : Remainder S W) → held ≡ one ∷ [] → one.state ≡ opening →
+      one.rest.items ≡ [] → IsHeldOf after opening [] 0 held
+  watch_opened opening held one is is_state is_rest = record { some = some; ahead = ahead; of = of; goes = goes }
     where
-      some : 0 < length watch.held.items
+      some : 0 < length held
       some = let e = ap length is in omega (arith, e)
 
-      only : (i : ℕ) (x : Remainder S W) → slice_get watch.held.items i ≡ Some x → x ≡ one
+      only : (i : ℕ) (x : Remainder S W) → slice_get held i ≡ Some x → x ≡ one
       only i x e = by_place i (ap (λ zs. slice_get zs i) (sym is) ∙ e)
         where
           by_place : (j : ℕ) → slice_get (one ∷ []) j ≡ Some x → x ≡ one
           by_place zero f = sym (same_Some one x f)
           by_place (suc j) f = cc
 
-      ahead : AreAhead 0 watch.held.items
+      of : (o : Operation W) → IsOfOne held o → IsOneOfLog [] o
+      of o (i, x, e, pf) =
+          let p = pf.0 in
+          let f = pf.1 in
+          let none : slice_get [] p ≡ Some o = ap (λ zs. slice_get zs p) (sym is_rest)
+          ∙ (ap (λ (z : Remainder S W). slice_get z.rest.items p) (sym (only i x e)) ∙ f) in
+          cc
+
+      ahead : AreAhead 0 held
       ahead i x e = record {
         ends = λ p at o f g. omega arith;
         forwards = λ p at o f g.
@@ -145,16 +162,16 @@ module _ {S W : Type 0} (after : S → W → Option S) where
       }
 
       goes : (future : List (Operation W)) (last : ℕ) → ComesFrom 0 last future →
-          (IsLinearizable after opening (map (known last) ([] ++ future)) ↔ AnyLawfulWith after future last watch.held.items)
-      goes future last from = (onward, back)
+          (IsLinearizable after opening (map (known last) ([] ++ future)) ↔ AnyLawfulWith after future last held)
+      goes future last c = (onward, back)
         where
-          onward : IsLinearizable after opening (map (known last) future) → AnyLawfulWith after future last watch.held.items
+          onward : IsLinearizable after opening (map (known last) future) → AnyLawfulWith after future last held
           onward h =
               let P : List (Operation W) → Type 0 = λ z. IsLawfulWith after future last opening z in
               let Q : S → Type 0 = λ z. IsLawfulWith after future last z one.rest.items in
               (0, one, ap (λ zs. slice_get zs 0) is, subst Q (sym is_state) (subst P (sym is_rest) h))
 
-          back : AnyLawfulWith after future last watch.held.items → IsLinearizable after opening (map (known last) future)
+          back : AnyLawfulWith after future last held → IsLinearizable after opening (map (known last) future)
           back (i, x, e, h) =
               let P : List (Operation W) → Type 0 = λ z. IsLawfulWith after future last opening z in
               let Q : S → Type 0 = λ z. IsLawfulWith after future last z one.rest.items in
@@ -164,19 +181,30 @@ module _ {S W : Type 0} (after : S → W → Option S) where
   module _ (opening : S) (log : List (Operation W)) (moment : ℕ) where
     -- one operation more
     pub watch_taken : (op : Operation W) → moment ≤ op.starts → ((end : ℕ) → op.ends ≡ Some end → op.starts ≤ end) →
-        (old new : Watch S W) → (n : ℕ) → length old.held.items ≤ n → AreTaken n op old.held.items new.held.items →
-        IsWatchOf after opening log moment old → IsWatchOf after opening (log ++ op ∷ []) moment new
+        (old new : List (Remainder S W)) → (n : ℕ) → length old ≤ n → AreTaken n op old new →
+        IsHeldOf after opening log moment old → IsHeldOf after opening (log ++ op ∷ []) moment new
     watch_taken op begins forwards old new n all t w = record {
       some = some;
-      ahead = taken_ahead op forwards old.held.items new.held.items n all t moment begins w.ahead;
+      ahead = taken_ahead op forwards old new n all t moment begins w.ahead;
+      of = of;
       goes = goes;
     }
       where
-        some : 0 < length new.held.items
+        of : (o : Operation W) → IsOfOne new o → IsOneOfLog (log ++ op ∷ []) o
+        of o (i, x, e, pf) =
+            let p = pf.0 in
+            let f = pf.1 in
+            let m = from op forwards old new n all t i x e in
+            elim (get_push m.0.rest.items op p o (ap (λ zs. slice_get zs p) (sym m.3) ∙ f)) [
+              | inl was ↦ let l = w.of o (i, m.0, m.1, (p, was)) in (l.0, get_front log (op ∷ []) l.0 o l.1)
+              | inr is ↦ (length log, get_last log op ∙ ap Some is.1)
+            ]
+
+        some : 0 < length new
         some = let l = w.some in let long = t.long in omega (arith, l, long)
 
         goes : (future : List (Operation W)) (last : ℕ) → ComesFrom moment last future →
-            (IsLinearizable after opening (map (known last) ((log ++ op ∷ []) ++ future)) ↔ AnyLawfulWith after future last new.held.items)
+            (IsLinearizable after opening (map (known last) ((log ++ op ∷ []) ++ future)) ↔ AnyLawfulWith after future last new)
         goes future last c = (onward, back)
           where
             more : ComesFrom moment last (op ∷ future)
@@ -195,21 +223,21 @@ module _ {S W : Type 0} (after : S → W → Option S) where
                 forth (suc i) end o f g = c.forwards i end o f g
 
             onward : IsLinearizable after opening (map (known last) ((log ++ op ∷ []) ++ future)) →
-                AnyLawfulWith after future last new.held.items
+                AnyLawfulWith after future last new
             onward h =
                 let P : List (Operation W) → Type 0 = λ z. IsLinearizable after opening (map (known last) z) in
                 let a = (w.goes (op ∷ future) last more).0 (subst P (append_assoc log (op ∷ []) future) h) in
-                let l = slice_get_within old.held.items a.0 a.1 a.2 in
+                let l = slice_get_within old a.0 a.1 a.2 in
                 let m = t.taken a.0 a.1 (omega (arith, l, all)) a.2 in
                 let Q : List (Operation W) → Type 0 = λ z. IsLinearizable after a.1.state (map (known last) z) in
                 let R : List (Operation W) → Type 0 = λ z. IsLawfulWith after future last a.1.state z in
                 let V : S → Type 0 = λ z. IsLawfulWith after future last z m.0.rest.items in
                 (a.0, m.0, m.1, subst V (sym m.2) (subst R (sym m.3) (subst Q (sym (append_assoc a.1.rest.items (op ∷ []) future)) a.3)))
 
-            back : AnyLawfulWith after future last new.held.items →
+            back : AnyLawfulWith after future last new →
                 IsLinearizable after opening (map (known last) ((log ++ op ∷ []) ++ future))
             back (i, x, e, h) =
-                let m = from op forwards old.held.items new.held.items n all t i x e in
+                let m = from op forwards old new n all t i x e in
                 let P : List (Operation W) → Type 0 = λ z. IsLinearizable after opening (map (known last) z) in
                 let Q : List (Operation W) → Type 0 = λ z. IsLinearizable after m.0.state (map (known last) z) in
                 let R : List (Operation W) → Type 0 = λ z. IsLawfulWith after future last m.0.state z in
@@ -217,13 +245,35 @@ module _ {S W : Type 0} (after : S → W → Option S) where
                 subst P (sym (append_assoc log (op ∷ []) future)) ((w.goes (op ∷ future) last more).1
                 (i, m.0, m.1, subst Q (append_assoc m.0.rest.items (op ∷ []) future) (subst R m.3 (subst V m.2 h))))
 
+    -- one that no order needs
+    pub watch_idle : (op : Operation W) → IsNeedless after op → (held : List (Remainder S W)) → IsHeldOf after opening log moment held →
+        IsHeldOf after opening (log ++ op ∷ []) moment held
+    watch_idle op idle held w = record {
+      some = w.some;
+      ahead = w.ahead;
+      of = λ o x. (let l = w.of o x in (l.0, get_front log (op ∷ []) l.0 o l.1));
+      goes = goes;
+    }
+      where
+        goes : (future : List (Operation W)) (last : ℕ) → ComesFrom moment last future →
+            (IsLinearizable after opening (map (known last) ((log ++ op ∷ []) ++ future)) ↔ AnyLawfulWith after future last held)
+        goes future last c = (
+          λ h. (w.goes future last c).0 ((idle_out after future last log future op idle opening).0
+              (subst P (append_assoc log (op ∷ []) future) h)),
+          λ h. subst P (sym (append_assoc log (op ∷ []) future))
+              ((idle_out after future last log future op idle opening).1 ((w.goes future last c).1 h)),
+        )
+          where
+            P : List (Operation W) → Type 0
+            P z = IsLinearizable after opening (map (known last) z)
+
     -- nothing that is held ends by a moment: the log is lawful by then
-    pub watch_lawful : (watch : Watch S W) → IsWatchOf after opening log moment watch → (end : ℕ) → AreAhead end watch.held.items →
+    pub watch_lawful : (held : List (Remainder S W)) → IsHeldOf after opening log moment held → (end : ℕ) → NoneIsOverBefore end held →
         (m : ℕ) → moment ≤ m + 1 → m < end → IsLawfulUntil after opening log m
-    watch_lawful watch w end ahead m from l =
-        let one : Remainder S W = get_or watch.held.items 0 (first watch.held.items w.some) in
-        let at : slice_get watch.held.items 0 ≡ Some one = slice_get-get_or watch.held.items 0 (first watch.held.items w.some) w.some in
-        let a : AnyLawfulWith after [] m watch.held.items = (0, one, at, none one (ahead 0 one at)) in
+    watch_lawful held w end ahead m begun l =
+        let one : Remainder S W = get_or held 0 (first held w.some) in
+        let at : slice_get held 0 ≡ Some one = slice_get-get_or held 0 (first held w.some) w.some in
+        let a : AnyLawfulWith after [] m held = (0, one, at, none one (λ p n o e f. ahead 0 p n one o at e f)) in
         let P : List (Operation W) → Type 0 = λ z. IsLinearizable after opening (map (known m) z) in
         subst P (behind log) ((w.goes [] m comes).1 a)
       where
@@ -236,9 +286,10 @@ module _ {S W : Type 0} (after : S → W → Option S) where
         behind (x ∷ xs) = ap (λ zs. x ∷ zs) (behind xs)
 
         comes : ComesFrom {W = W} moment m []
-        comes = record { later = from; begins = λ i o e. cc; forwards = λ i e o f g. cc }
+        comes = record { later = begun; begins = λ i o e. cc; forwards = λ i e o f g. cc }
 
-        none : (one : Remainder S W) → IsAhead end one.rest.items → IsLawfulWith after [] m one.state one.rest.items
+        none : (one : Remainder S W) → ((p at : ℕ) (o : Operation W) → slice_get one.rest.items p ≡ Some o → o.ends ≡ Some at → end ≤ at) →
+            IsLawfulWith after [] m one.state one.rest.items
         none one h =
             (opened after one.state (map (known m) (one.rest.items ++ []))).0
             (last_end after (map (known m) (one.rest.items ++ [])) (λ q. false) one.state ends)
@@ -247,7 +298,7 @@ module _ {S W : Type 0} (after : S → W → Option S) where
             ends p o e f =
                 let x = of_map (known m) (one.rest.items ++ []) p o e in
                 let there : slice_get one.rest.items p ≡ Some x.0 = ap (λ zs. slice_get zs p) (sym (behind one.rest.items)) ∙ x.1 in
-                sym (ap (λ (z : Operation W). z.ends) x.2) ∙ by_end x.0.ends (λ at is. h.ends p at x.0 there is)
+                sym (ap (λ (z : Operation W). z.ends) x.2) ∙ by_end x.0.ends (λ at is. h p at x.0 there is)
               where
                 by_end : (ends : Option ℕ) → ((at : ℕ) → ends ≡ Some at → end ≤ at) → known_end m ends ≡ None
                 by_end None g = refl
@@ -256,123 +307,112 @@ module _ {S W : Type 0} (after : S → W → Option S) where
                     let no : nat_le at m ≡ false = grind (arith, nat_tests) in ap (λ b. cond b (Some at) None) no
 
   module _ (opening : S) (log : List (Operation W)) where
-    -- what is left behind an end is held of the log
-    watch_passed : (floor end : ℕ) (old new : Watch S W) → IsWatchOf after opening log floor old → floor ≤ end →
-        AreLeftBehind after end old.held.items new.held.items → 0 < length new.held.items → IsWatchOf after opening log (end + 1) new
-    watch_passed floor end old new w le h some = record { some = some; ahead = h.ahead; goes = goes }
-      where
-        goes : (future : List (Operation W)) (last : ℕ) → ComesFrom (end + 1) last future →
-            (IsLinearizable after opening (map (known last) (log ++ future)) ↔ AnyLawfulWith after future last new.held.items)
-        goes future last c = (
-          λ x. (h.goes future last is).1 ((w.goes future last comes).0 x),
-          λ x. (w.goes future last comes).1 ((h.goes future last is).0 x),
-        )
-          where
-            comes : ComesFrom floor last future
-            comes = record {
-              later = (let l = c.later in omega (arith, l, le));
-              begins = λ i o e. (let l = c.begins i o e in omega (arith, l, le));
-              forwards = c.forwards;
-            }
+    -- from a later moment on fewer operations may come
+    sooner : (floor moment last : ℕ) (future : List (Operation W)) → floor ≤ moment → ComesFrom moment last future →
+        ComesFrom floor last future
+    sooner floor moment last future le c = record {
+      later = (let l = c.later in omega (arith, l, le));
+      begins = λ i o e. (let l = c.begins i o e in omega (arith, l, le));
+      forwards = c.forwards;
+    }
 
-            is : IsFuture end last future
-            is = record {
-              later = (let l = c.later in omega (arith, l));
-              begins = λ i o e. (let l = c.begins i o e in omega (arith, l));
-              forwards = c.forwards;
-            }
+    -- what is left behind an end is held of the log
+    watch_passed : (floor end : ℕ) (old new : List (Remainder S W)) → IsHeldOf after opening log floor old → floor ≤ end →
+        AreLeftBehind after end old new → 0 < length new → IsHeldOf after opening log (end + 1) new
+    watch_passed floor end old new w le h some = record {
+      some = some;
+      ahead = h.ahead;
+      of = λ o x. w.of o (h.of o x);
+      goes = λ future last c. (
+        λ x. (h.goes future last c).1 ((w.goes future last (comes last future c)).0 x),
+        λ x. (w.goes future last (comes last future c)).1 ((h.goes future last c).0 x),
+      );
+    }
+      where
+        comes : (last : ℕ) (future : List (Operation W)) → ComesFrom (end + 1) last future → ComesFrom floor last future
+        comes last future c = sooner floor (end + 1) last future (omega (arith, le)) c
 
     -- or nothing is left
-    watch_lost : (floor end : ℕ) (old new : Watch S W) → IsWatchOf after opening log floor old → floor ≤ end →
-        AreLeftBehind after end old.held.items new.held.items → length new.held.items ≤ 0 → IsLostAfter after opening log end
-    watch_lost floor end old new w le h none future last is lawful =
-        let x = (h.goes future last is).1 ((w.goes future last comes).0 lawful) in
-        let l = slice_get_within new.held.items x.0 x.1 x.2 in absurd (omega (arith, l, none))
-      where
-        comes : ComesFrom floor last future
-        comes = record {
-          later = (let l = is.later in omega (arith, l, le));
-          begins = λ i o e. (let l = is.begins i o e in omega (arith, l, le));
-          forwards = is.forwards;
-        }
+    watch_lost : (floor end : ℕ) (old new : List (Remainder S W)) → IsHeldOf after opening log floor old → floor ≤ end →
+        AreLeftBehind after end old new → length new ≤ 0 → IsLostAfter after opening log end
+    watch_lost floor end old new w le h none future last c lawful =
+        let x = (h.goes future last c).1 ((w.goes future last (sooner floor (end + 1) last future (omega (arith, le)) c)).0 lawful) in
+        let l = slice_get_within new x.0 x.1 x.2 in absurd (omega (arith, l, none))
 
     -- no end is sooner than this
-    pub watch_until : (floor last : ℕ) (watch : Watch S W) → IsWatchOf after opening log floor watch → floor ≤ last + 1 →
-        AreAhead (last + 1) watch.held.items → IsWatchOf after opening log (last + 1) watch
-    watch_until floor last watch w le ahead = record { some = w.some; ahead = ahead; goes = goes }
-      where
-        goes : (future : List (Operation W)) (m : ℕ) → ComesFrom (last + 1) m future →
-            (IsLinearizable after opening (map (known m) (log ++ future)) ↔ AnyLawfulWith after future m watch.held.items)
-        goes future m c = w.goes future m comes
-          where
-            comes : ComesFrom floor m future
-            comes = record {
-              later = (let l = c.later in omega (arith, l, le));
-              begins = λ i o e. (let l = c.begins i o e in omega (arith, l, le));
-              forwards = c.forwards;
-            }
-
-  -- all that is ahead ends no sooner than the soonest
-  pub soonest_ahead : (last : ℕ) (held : List (Remainder S W)) (end : Option ℕ) → IsSoonestBelow last (length held) held end →
-      AreAhead 0 held → AreAhead (end_or last end) held
-  soonest_ahead last held end h a i one e = record {
-    ends = λ p at o f g. h.lower i p at one o (slice_get_within held i one e) e f g;
-    forwards = (a i one e).forwards;
-  }
+    pub watch_until : (floor last : ℕ) (held : List (Remainder S W)) → IsHeldOf after opening log floor held → floor ≤ last + 1 →
+        AreAhead (last + 1) held → IsHeldOf after opening log (last + 1) held
+    watch_until floor last held w le ahead = record {
+      some = w.some;
+      ahead = ahead;
+      of = w.of;
+      goes = λ future m c. w.goes future m (sooner floor (last + 1) m future le c);
+    }
 
   module _ (opening : S) (log : List (Operation W)) (moment last : ℕ) where
     -- what the loop keeps
-    pub record Rises (watch : Watch S W) : Type 0 where
+    pub record Rises (held : List (Remainder S W)) : Type 0 where
       pub floor : ℕ
       pub high : floor ≤ last + 1
-      pub is : IsWatchOf after opening log floor watch
-      pub lawful : (m : ℕ) → moment ≤ m + 1 → m < floor → IsLawfulUntil after opening log m
+      pub is : IsHeldOf after opening log floor held
+      pub lawful : IsLawfulBetween after opening log moment floor
 
-    pub rises_first : (watch : Watch S W) → moment ≤ last + 1 → IsWatchOf after opening log moment watch → Rises watch
-    rises_first watch le w = record {
+    pub rises_first : (held : List (Remainder S W)) → moment ≤ last + 1 → IsHeldOf after opening log moment held → Rises held
+    rises_first held le w = record {
       floor = moment;
       high = le;
       is = w;
-      lawful = λ m from l. watch_lawful opening log moment watch w moment w.ahead m from l;
+      lawful = λ m begun l. watch_lawful opening log moment held w moment (ahead_none moment held w.ahead) m begun l;
     }
 
     -- by each moment before an end
-    before : (watch : Watch S W) → Rises watch → (end : ℕ) → AreAhead end watch.held.items → (m : ℕ) → moment ≤ m + 1 → m < end →
-        IsLawfulUntil after opening log m
-    before watch r end ahead m from l = elim (cases_lt m r.floor) [
-      | inl less ↦ r.lawful m from less
-      | inr le ↦ watch_lawful opening log r.floor watch r.is end ahead m (omega (arith, le)) l
+    before : (held : List (Remainder S W)) → Rises held → (end : ℕ) → NoneIsOverBefore end held →
+        IsLawfulBetween after opening log moment end
+    before held r end ahead m begun l = elim (cases_lt m r.floor) [
+      | inl less ↦ r.lawful m begun less
+      | inr le ↦ watch_lawful opening log r.floor held r.is end ahead m (omega (arith, le)) l
     ]
 
-    below : (watch : Watch S W) (r : Rises watch) (end : ℕ) → HasEnd watch.held.items end → r.floor ≤ end
-    below watch r end (i, one, p, at, (o, e, f)) = (r.is.ahead i one at).ends p end o e f
+    module _ (old : List (Remainder S W)) (r : Rises old) (end : End W) (next : IsSoonestEnd last old end) where
+      below : r.floor ≤ end.at
+      below =
+          let x = next.of in
+          (r.is.ahead x.0 x.1 x.2).ends x.3.0 end.at end.op x.3.1 next.ends
 
-    module _ (old new : Watch S W) (r : Rises old) (end : ℕ) (has : HasEnd old.held.items end) (by : end ≤ last)
-        (ahead : AreAhead end old.held.items) (h : AreLeftBehind after end old.held.items new.held.items) where
-      pub rises_more : 0 < length new.held.items → Rises new
-      rises_more some =
-          let le = below old r end has in
-          let w = watch_passed opening log r.floor end old new r.is le h some in record {
-            floor = end + 1;
+      ends : IsOneOfLog log end.op × (end.op.ends ≡ Some end.at)
+      ends = (r.is.of end.op next.of, next.ends)
+
+      pub rises_more : (new : List (Remainder S W)) → AreLeftBehind after end.at old new → 0 < length new → Rises new
+      rises_more new h some =
+          let w = watch_passed opening log r.floor end.at old new r.is below h some in
+          let by = next.by in record {
+            floor = end.at + 1;
             high = omega (arith, by);
             is = w;
-            lawful = λ m from l. (elim (cases_lt m end) [
-              | inl less ↦ before old r end ahead m from less
-              | inr ge ↦ watch_lawful opening log (end + 1) new w (end + 1) w.ahead m (omega (arith, ge)) l
+            lawful = λ m begun l. (elim (cases_lt m end.at) [
+              | inl less ↦ before old r end.at next.first m begun less
+              | inr ge ↦ watch_lawful opening log (end.at + 1) new w (end.at + 1) (ahead_none (end.at + 1) new w.ahead) m
+                  (omega (arith, ge)) l
             ]);
           }
 
-      pub rises_lost : length new.held.items ≤ 0 → (end ≤ last) × ((m : ℕ) → moment ≤ m + 1 → m < end → IsLawfulUntil after opening log m)
-          × IsLostAfter after opening log end
-      rises_lost none = (
-        by,
-        before old r end ahead,
-        watch_lost opening log r.floor end old new r.is (below old r end has) h none,
+      pub rises_lost : (new : List (Remainder S W)) → AreLeftBehind after end.at old new → length new ≤ 0 →
+          (end.at ≤ last) × IsFirstLost after opening log moment end.at end.op
+      rises_lost new h none = (
+        next.by,
+        record {
+          ends = ends;
+          lawful = before old r end.at next.first;
+          lost = watch_lost opening log r.floor end.at old new r.is below h none;
+        },
       )
 
-    pub rises_done : (watch : Watch S W) → Rises watch → AreAhead (last + 1) watch.held.items →
-        IsWatchOf after opening log (last + 1) watch × ((m : ℕ) → moment ≤ m + 1 → m ≤ last → IsLawfulUntil after opening log m)
-    rises_done watch r ahead = (
-      watch_until opening log r.floor last watch r.is r.high ahead,
-      λ m from l. before watch r (last + 1) ahead m from (omega (arith, l)),
+      pub rises_too_many : (end.at ≤ last) × AreTooManyAt after opening log moment end.at
+      rises_too_many = (next.by, record { ends = (end.op, ends); lawful = before old r end.at next.first })
+
+    pub rises_done : (held : List (Remainder S W)) → Rises held → NoneIsOverBefore (last + 1) held → AreAhead 0 held →
+        IsHeldOf after opening log (last + 1) held × IsLawfulBetween after opening log moment (last + 1)
+    rises_done held r none ahead = (
+      watch_until opening log r.floor last held r.is r.high (none_ahead (last + 1) held none ahead),
+      before held r (last + 1) none,
     )

@@ -1,5 +1,5 @@
 -- What is left of a log: the operations that aren't placed (this project's own).
-use Rattle.std.specs.Prelude.{◌≡◌, ℕ, zero, suc, ◌<◌, ◌≤◌, nat_le, cond, List, [], ◌∷◌, ◌++◌, map, slice_get}
+use Rattle.std.specs.Prelude.{◌≡◌, ℕ, zero, suc, ◌+◌, ◌≤◌, nat_le, cond, List, [], ◌∷◌, ◌++◌, map, slice_get}
 use Rattle.std.specs.Prelude.{Option, None, Some}
 use Rattle.object_core.specs.declared.operation.Operation.{Operation}
 use Rattle.object_core.specs.Logs.{IsLinearizable}
@@ -27,16 +27,24 @@ module _ {W : Type 0} where
     pub ends : (p at : ℕ) (o : Operation W) → slice_get rest p ≡ Some o → o.ends ≡ Some at → end ≤ at
     pub forwards : RunForwards rest
 
-  -- what begins later than this moment, as it is known at that moment or a later one
-  pub record IsFuture (moment last : ℕ) (future : List (Operation W)) : Type 0 where
-    pub later : moment ≤ last
-    pub begins : (i : ℕ) (o : Operation W) → slice_get future i ≡ Some o → moment < o.starts
+  -- what begins at this moment or later, as it is known at a moment no earlier than the one before
+  pub record ComesFrom (moment last : ℕ) (future : List (Operation W)) : Type 0 where
+    pub later : moment ≤ last + 1
+    pub begins : (i : ℕ) (o : Operation W) → slice_get future i ≡ Some o → moment ≤ o.starts
     pub forwards : RunForwards future
+
+  -- it is an operation of the log
+  abbrev pub IsOneOfLog : List (Operation W) → Operation W → Type 0
+  IsOneOfLog log o = (i : ℕ) × (slice_get log i ≡ Some o)
 
 module _ {S W : Type 0} where
   -- no operation of these ends before this moment, or before it began
   abbrev pub AreAhead : ℕ → List (Remainder S W) → Type 0
   AreAhead end held = (i : ℕ) (one : Remainder S W) → slice_get held i ≡ Some one → IsAhead end one.rest.items
+
+  -- it is an operation of one of these
+  abbrev pub IsOfOne : List (Remainder S W) → Operation W → Type 0
+  IsOfOne held o = (i : ℕ) × (one : Remainder S W) × (slice_get held i ≡ Some one) × IsOneOfLog one.rest.items o
 
 module _ {S W : Type 0} (after : S → W → Option S) (future : List (Operation W)) (last : ℕ) where
   -- from this state what is left has a lawful order with this future, as both are known at last

@@ -1,5 +1,5 @@
-//! Watching a log of an object as it comes: `take` an operation, which begins later than the log is known, and `rise` to a
-//! moment by which nothing more begins.
+//! Watching a log of an object as it comes: `take` an operation, `rise` to a moment by which nothing more begins, and
+//! `finish` where nothing more comes.
 #![tactic(auto)]
 
 mod ends;
@@ -10,4 +10,4 @@ mod remainder;
 mod watch;
 
 pub use remainder::Remainder;
-pub use watch::{Risen, Watch, WatchError, open_watch, rise, take};
+pub use watch::{Ended, Risen, Watch, WatchError, finish, open_watch, rise, take};

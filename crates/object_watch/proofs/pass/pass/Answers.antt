@@ -1,34 +1,26 @@
--- One more level, which is shorter.
-use Rattle.std.proofs.Common.{rules, ◌<◌, ◌≤◌, List, length, subst}
+-- One more is visited, and at last all are.
+use Rattle.std.proofs.Common.{◌≡◌, ℕ, ◌≤◌, List, [], length, slice_get, Some, sym, ◌∙◌, ap, subst, arith}
 use Rattle.object_watch.specs.declared.remainder.Remainder.{Remainder}
-use Rattle.object_watch.specs.inner.Levels.{AreVisited}
-use Rattle.object_watch.proofs.Passing.{longest_less, passing_all, passing_more}
+use Rattle.object_watch.specs.inner.Levels.{IsCopiedAt}
+use Rattle.object_watch.proofs.Passing.{passing_all, passing_more, passing_none}
 use Rattle.object_watch.proofs.pass.pass.Goals as goal
 
-pub loop-alloc-smaller : goal.loop-alloc-smaller
-loop-alloc-smaller g c = longest_less c.loop-alloc.level.items c.in_ok-level.level.items some visited.next_from
+pub loop-next-init : goal.loop-next-init
+loop-next-init g c = passing_none g.O.Object.after c.args.end c.args.held.items c.new-kept.result.items none c.requires
   where
-    some : 0 < length c.loop-alloc.level.items
-    some = let e = c.is_empty.ensures in let f = c.loop-alloc-test.true in let k = c.loop-alloc.level.ok in search (e, f, k, rules)
+    none : (i : ℕ) (one : Remainder g.row.O.Denot g.row.O-What.Denot) → slice_get c.new-kept.result.items i ≡ Some one → ⊥
+    none i one e = let f : slice_get [] i ≡ Some one = ap (λ zs. slice_get zs i) (sym c.new-kept.ensures.items) ∙ e in cc
 
-    P : List (Remainder g.row.O.Denot g.row.O-What.Denot) → Type 0
-    P z = AreVisited g.O.Object.after c.args.end (length z) z c.in_ok-level.level.items c.loop-alloc.kept.items c.next_level.new.kept.items
-
-    visited : AreVisited g.O.Object.after c.args.end (length c.loop-alloc.level.items) c.loop-alloc.level.items c.in_ok-level.level.items
-        c.loop-alloc.kept.items c.next_level.new.kept.items
-    visited = subst P c.as_slice.ensures.value c.in_ok-level.ensures
-
-pub loop-alloc-preserved : goal.loop-alloc-preserved
-loop-alloc-preserved g c =
-    passing_more g.O.Object.after c.args.end c.args.held.items c.loop-alloc.level.items c.in_ok-level.level.items
-    c.loop-alloc.kept.items c.next_level.new.kept.items c.loop-alloc.invariant (subst P c.as_slice.ensures.value c.in_ok-level.ensures)
-  where
-    P : List (Remainder g.row.O.Denot g.row.O-What.Denot) → Type 0
-    P z = AreVisited g.O.Object.after c.args.end (length z) z c.in_ok-level.level.items c.loop-alloc.kept.items c.next_level.new.kept.items
+pub loop-next-preserved : goal.loop-next-preserved
+loop-next-preserved g c =
+    let P : List (Remainder g.row.O.Denot g.row.O-What.Denot) → Type 0 = λ z. IsCopiedAt z c.loop-next.next c.in_ok-from.from in
+    passing_more g.O.Object.after c.args.end c.args.held.items c.loop-next.next c.loop-next.seen.items c.loop-next.kept.items
+    c.visit.new.seen.items c.visit.new.kept.items c.loop-next.invariant c.in_ok-from.from
+    (subst P c.as_slice.ensures.value c.in_ok-from.ensures) c.in_ok-visit.ensures
 
 pub returns : goal.returns
-returns g c =
-    passing_all g.O.Object.after c.args.end c.args.held.items c.loop-alloc.level.items c.loop-alloc.kept.items c.loop-alloc.invariant none
+returns g c = passing_all g.O.Object.after c.args.end c.args.held.items c.loop-next.next c.loop-next.seen.items c.loop-next.kept.items
+    c.loop-next.invariant all
   where
-    none : length c.loop-alloc.level.items ≤ 0
-    none = let e = c.is_empty.ensures in let f = c.loop-alloc-test.false in let k = c.loop-alloc.level.ok in search (e, f, k, rules)
+    all : length c.loop-next.seen.items ≤ c.loop-next.next
+    all = let e = c.len.ensures in let l = c.loop-next-test.false in let k = c.loop-next.seen.ok in omega (arith, e, l, k)

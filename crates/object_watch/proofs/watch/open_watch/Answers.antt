@@ -4,10 +4,10 @@ use Rattle.object_watch.specs.declared.remainder.Remainder.{Remainder}
 use Rattle.object_watch.proofs.Watching.{watch_opened}
 use Rattle.object_watch.proofs.watch.open_watch.Goals as goal
 
-pub returns : goal.returns
-returns g c =
+pub returns-clause-opened : goal.returns-clause-opened
+returns-clause-opened g c =
     let one : Remainder g.row.O.Denot g.row.O-What.Denot = record { state = c.args.opening; rest = c.new.result } in
-    watch_opened g.O.Object.after c.args.opening (record { held = c.push.new.self }) one
+    watch_opened g.O.Object.after c.args.opening c.push.new.self.items one
     (c.in_ok-push.ensures.items
     ∙ ap (λ (zs : List (Remainder g.row.O.Denot g.row.O-What.Denot)). zs ++ one ∷ []) c.in_ok-held.ensures.items) refl
     c.new.ensures.items

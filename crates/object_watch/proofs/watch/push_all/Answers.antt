@@ -1,5 +1,5 @@
 -- One more has it, and at last each.
-use Rattle.std.proofs.Common.{◌≡◌, ℕ, ◌<◌, ◌≤◌, length, refl, arith, subst, slice_get, Some}
+use Rattle.std.proofs.Common.{◌≡◌, ℕ, ◌<◌, length, refl, arith, subst, slice_get, Some}
 use Rattle.std.proofs.lemmas.Option.{slice_get_read}
 use Rattle.object_watch.specs.inner.Levels.{AreTaken}
 use Rattle.object_watch.proofs.Watching.{taken_more}

@@ -2,7 +2,7 @@
 use Rattle.std.proofs.Common.{◌≡◌, ℕ, ◌<◌, ◌≤◌, Option, Some, length, sym, subst, arith, inl, inr}
 use Rattle.std.specs.Prelude.{IsSomeAnd}
 use Rattle.std.proofs.lemmas.Bool.{cases_lt, iff_false}
-use Rattle.object_watch.proofs.Watching.{taken_ahead, watch_taken}
+use Rattle.object_watch.proofs.Watching.{taken_ahead, watch_idle, watch_taken}
 use Rattle.object_watch.proofs.watch.take.Goals as goal
 
 -- what isn't backwards runs forwards
@@ -14,13 +14,18 @@ forth ends starts h end e = elim (cases_lt end starts) [
 ]
 
 pub returns-in-Ok-clause-taken : goal.returns-in-Ok-clause-taken
-returns-in-Ok-clause-taken g c opening log moment begins w =
-    watch_taken g.O.Object.after opening log moment c.args.op begins
-    (forth c.args.op.ends c.args.op.starts (iff_false c.is_backwards.ensures c.if-is_backwards.false)) c.args.watch.now
-    (record { held = c.push_all.new.held }) (length c.args.watch.now.held.items) (omega arith) c.in-Ok.ensures w
+returns-in-Ok-clause-taken g c opening log w =
+    watch_taken g.O.Object.after opening log c.args.watch.now.moment c.args.op c.if-op-watch.false
+    (forth c.args.op.ends c.args.op.starts (iff_false c.is_backwards.ensures c.if-is_backwards.false)) c.args.watch.now.held.items
+    c.push_all.new.held.items (length c.args.watch.now.held.items) (omega arith) c.in-Ok.ensures w
 
 pub returns-in-Ok-clause-ahead : goal.returns-in-Ok-clause-ahead
 returns-in-Ok-clause-ahead g c h =
     taken_ahead c.args.op (forth c.args.op.ends c.args.op.starts (iff_false c.is_backwards.ensures c.if-is_backwards.false))
     c.args.watch.now.held.items c.push_all.new.held.items (length c.args.watch.now.held.items) (omega arith) c.in-Ok.ensures 0 (omega arith)
     h
+
+pub returns-then-is_idle-clause-taken : goal.returns-then-is_idle-clause-taken
+returns-then-is_idle-clause-taken g c opening log w =
+    watch_idle g.O.Object.after opening log c.args.watch.now.moment c.args.op (c.is_idle.ensures c.if-is_idle.true)
+    c.args.watch.now.held.items w
