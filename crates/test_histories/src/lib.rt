@@ -3,6 +3,8 @@
 #![tactic(auto)]
 
 #[cfg(test)]
+mod coherences;
+#[cfg(test)]
 mod documents;
 #[cfg(test)]
 mod orders;

@@ -1,0 +1,5 @@
+pub mod Keys
+pub mod Walks
+pub mod Ranks
+pub mod Sortings
+pub mod Writes
