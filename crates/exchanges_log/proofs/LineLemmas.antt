@@ -11,7 +11,7 @@ use Rattle.lines_log.specs.inner.Numbers.{Grow}
 use Rattle.read_exchange.specs.Exchanges.{exchange_seen, finds, gets, misses, SaidExchange, sets, swaps, tries}
 use Rattle.read_exchange.specs.declared.line.ExchangeOp.{ExchangeOp}
 use Rattle.exchanges_log.specs.ExchangeLogs.{AreExchangeLines, IsNamed, IsNumberedExchange, judged_line, MeansExchange, texts_of}
-use Rattle.exchanges_log.specs.inner.ExchangeNumbers.{GrowBy, IsOperationNow}
+use Rattle.exchanges_log.specs.ExchangeNumbers.{GrowBy, IsOperationNow}
 use Rattle.exchanges_log.specs.inner.ExchangeReadings.{AreExchangesRead, key_of}
 use Rattle.exchanges_log.specs.declared.reader.Reader.{Reader}
 

@@ -9,7 +9,7 @@ use Rattle.read_line.specs.declared.numbering.Numbering.{Numbering}
 use Rattle.lines_log.specs.inner.Numbers.{Grow}
 use Rattle.read_exchange.specs.Exchanges.{SaidExchange, gets, finds}
 use Rattle.exchanges_log.specs.ExchangeLogs.{MeansExchange, texts_of}
-use Rattle.exchanges_log.specs.inner.ExchangeNumbers.{AreNumbersOf, GaveNumbers, GrowBy, IsExchangeNow}
+use Rattle.exchanges_log.specs.ExchangeNumbers.{AreNumbersOf, GaveNumbers, GrowBy, IsExchangeNow}
 
 pub grow_none : (records : List (List ℕ)) → GrowBy records [] records
 grow_none records = record { grows = λ n text at. at; met = λ n text at. inl at }

@@ -1,3 +1,4 @@
 pub mod ExchangeFaults
 pub mod ExchangeLogs
+pub mod ExchangeNumbers
 pub mod inner

@@ -1,2 +1,1 @@
-pub mod ExchangeNumbers
 pub mod ExchangeReadings

@@ -12,3 +12,4 @@ mod reader;
 
 pub use exchanges_log::ExchangesLog;
 pub use log::{has_repeats, read_exchanges};
+pub use number::number_op;

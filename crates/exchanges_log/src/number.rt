@@ -2,7 +2,7 @@
 ghost use Rattle.std.specs.Prelude.{[], ◌∷◌, ℕ, List, IfOk, string_bytes};
 ghost use Rattle.read_line.specs.Numberings.{IsNumbering};
 ghost use Rattle.read_exchange.specs.Exchanges.{exchange_seen, what_seen};
-ghost use Rattle.exchanges_log.specs.inner.ExchangeNumbers.{GaveNumbers, IsExchangeNow, IsOperationNow};
+ghost use Rattle.exchanges_log.specs.ExchangeNumbers.{GaveNumbers, IsExchangeNow, IsOperationNow};
 
 use lines_log::fitted;
 use object_core::Operation;
@@ -12,7 +12,7 @@ use read_line::Numbering;
 use std::alloc::AllocError;
 
 /// An operation with the numbers of its records.
-pub(crate) fn number_op(
+pub fn number_op(
     numbering: &mut Numbering,
     op: ExchangeOp,
 ) -> Result<Operation<Exchange>, AllocError>

@@ -1,6 +1,8 @@
 mod CountLemmas
 pub mod FrontLemmas
 mod InputLemmas
+mod KeysLemmas
+mod OneKeyLemmas
 mod LimitLemmas
 mod LittleLemmas
 pub mod StatusLemmas
@@ -8,3 +10,4 @@ pub mod SmallStatusLemmas
 pub mod LogLemmas
 pub mod ExchangesLemmas
 pub mod OrderLemmas
+pub mod SmallLemmas

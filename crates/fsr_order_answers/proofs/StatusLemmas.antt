@@ -14,7 +14,7 @@ use Rattle.fsr_order_answers.specs.Text.{shows_little}
 abbrev IsOfAnswer : ℕ → Type 0
 IsOfAnswer status = (status ≤ 1) ⊎ (status ≡ 8)
 
-of_lawful : (strict little : Bool) → IsOfAnswer (status_at (lawful_exit strict little))
+pub of_lawful : (strict little : Bool) → IsOfAnswer (status_at (lawful_exit strict little))
 of_lawful true true = inr refl
 of_lawful true false = inl (omega arith)
 of_lawful false little = inl (omega arith)

@@ -87,7 +87,7 @@ fn exit_of(strict: bool, log: &LinesLog, found: &LogAnswer) -> Exit
     }
 }
 
-fn lawful_exit(strict: bool, little: bool) -> Exit
+pub(crate) fn lawful_exit(strict: bool, little: bool) -> Exit
     ensures { result ≡ lawful_exit strict little }
 {
     if strict && little {

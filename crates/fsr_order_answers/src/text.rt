@@ -38,7 +38,7 @@ fn push_shown(text: &mut Vec<u8>, log: &LinesLog, found: &LogAnswer) -> Result<(
 }
 
 /// How little so many operations and records show, if so.
-fn push_little(
+pub(crate) fn push_little(
     text: &mut Vec<u8>,
     ops: usize,
     records: usize,
@@ -63,7 +63,7 @@ pub(crate) fn shows_little(log: &LinesLog) -> bool
 }
 
 /// Whether these are less than one of a hundred.
-fn are_few(read: usize, records: usize) -> bool
+pub(crate) fn are_few(read: usize, records: usize) -> bool
     ensures { result ≡ nat_lt (read * 100) records }
 {
     u128::from(read as u64) * 100 < u128::from(records as u64)

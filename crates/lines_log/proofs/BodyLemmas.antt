@@ -1,6 +1,6 @@
 -- Line by line: what is left of the body becomes shorter, and what was read longer.
 use Rattle.std.proofs.Common.{◌≡◌, ℕ, List, [], ◌∷◌, ◌++◌, length, refl, ap, sym, ◌∙◌, arith, subst, Some, None, Option, Ok, Result, Err}
-use Rattle.std.proofs.Common.{Bool, true, false, ◌⊎◌, inl, inr, append_assoc}
+use Rattle.std.proofs.Common.{Bool, true, false, append_assoc}
 use Rattle.std.specs.Prelude.{◌==◌, ◌||◌, not, if◌then◌else◌}
 use Rattle.std.proofs.lemmas.List.{append-nil}
 use Rattle.read_document.specs.declared.refusal.DocError.{DocError}
@@ -37,7 +37,7 @@ never rule count (Ok (operation o)) h = by_tests (same_key rule.key o.key) (rule
     by_tests false allowed e = cc
 
 -- only the last line ends a log
-ends_last : (rule : LineRule) (last : Bool) (count : ℕ) (line : List ℕ) → judged_line rule count last line ≡ Ok None → last ≡ true
+pub ends_last : (rule : LineRule) (last : Bool) (count : ℕ) (line : List ℕ) → judged_line rule count last line ≡ Ok None → last ≡ true
 ends_last rule true count line is = refl
 ends_last rule false count line is = absurd (never rule count (entry_of line) is)
 

@@ -1,5 +1,5 @@
 -- Why lines stand for no log: the first line at fault, and why. The lines before it are all right (this project's own).
-use Rattle.std.specs.Prelude.{◌≡◌, ℕ, ◌+◌, ◌⊎◌, true, false, List, [], ◌∷◌, ◌++◌, length}
+use Rattle.std.specs.Prelude.{◌≡◌, ℕ, ◌⊎◌, true, false, List, [], ◌∷◌, ◌++◌, length}
 use Rattle.std.specs.Prelude.{Bool, slice_get, Some, Ok, Err}
 use Rattle.history_core.specs.declared.history.Op.{Op}
 use Rattle.history_core.specs.Searches.{WritesOnce}

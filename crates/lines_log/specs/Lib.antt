@@ -1,3 +1,5 @@
 pub mod Faults
+pub mod KeyFaults
+pub mod Keys
 pub mod Logs
 pub mod inner

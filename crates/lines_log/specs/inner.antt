@@ -1,2 +1,3 @@
+pub mod KeyReadings
 pub mod Numbers
 pub mod Readings

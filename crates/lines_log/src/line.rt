@@ -56,7 +56,7 @@ pub fn same_key(key: &Option<String>, other: &Option<String>) -> bool
     }
 }
 
-fn judged_end(ops: usize, count: usize, last: bool) -> Result<Option<LineOp>, DocError>
+pub(crate) fn judged_end(ops: usize, count: usize, last: bool) -> Result<Option<LineOp>, DocError>
     ensures said { Gives (option_map op_seen) result
         (judged (record { limited = true; key = None }) count last (done ops)) }
     ensures allowed { IfOk result (λ found. IfSome found IsAllowed) }

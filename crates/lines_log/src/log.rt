@@ -18,7 +18,7 @@ use read_line::{LineOp, LogLine, Numbering, read_header, read_line};
 use std::alloc::{AllocError, Global};
 
 /// The line of the header.
-const HEADER: usize = 1;
+pub(crate) const HEADER: usize = 1;
 
 /// What is kept of the log that the bytes stand for, or the first line at fault.
 pub fn read_lines(alloc: Global, bytes: &[u8]) -> Result<LinesLog, Fault>
@@ -64,7 +64,7 @@ pub fn text_of(bytes: &[u8]) -> &[u8]
 }
 
 /// The key of the operation on the first of these lines, if it has one.
-fn first_key(alloc: Global, body: &[u8]) -> Result<Option<String>, AllocError>
+pub(crate) fn first_key(alloc: Global, body: &[u8]) -> Result<Option<String>, AllocError>
     ensures { IfOk result (λ key. option_map string_bytes key ≡ first_key (lines_of body.now)) }
 {
     let Some((line, _)) = split_line(body) else {
@@ -116,7 +116,12 @@ pub fn is_end(rest: &[u8]) -> bool
 }
 
 /// What is kept. The numbers' memory is given back first.
-fn finish(alloc: Global, limit: u64, ended: bool, reader: Reader) -> Result<LinesLog, AllocError>
+pub(crate) fn finish(
+    alloc: Global,
+    limit: u64,
+    ended: bool,
+    reader: Reader,
+) -> Result<LinesLog, AllocError>
     ensures { IfOk result (IsFinished limit ended reader) }
 {
     let Reader {

@@ -79,7 +79,7 @@ impl Reader {
     }
 
     /// Enters the operation of the next line.
-    fn enter(&mut self, op: LineOp) -> Result<(), Fault>
+    pub fn enter(&mut self, op: LineOp) -> Result<(), Fault>
         requires allowed { IsAllowed op }
         requires room { self.old.count + 2 < 2 ^ 64 }
         requires known { HasReadLines self.old }

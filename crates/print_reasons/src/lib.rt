@@ -12,6 +12,6 @@ mod unsourced;
 pub use lost::lost_text;
 pub use named::{in_kept, is_named, places_of};
 pub use sentence::{push_u64, push_words};
-pub use text::verdict_text;
+pub use text::{push_writes, verdict_text};
 pub use together::together_text;
 pub use unsourced::{early_lines, unwritten_lines};

@@ -46,7 +46,7 @@ fn lawful_text(alloc: Global, order: bool, writes: &[usize]) -> Result<Vec<u8>, 
 
 /// The lines of the writes, in the order that was found.
 #[tactic(auto, using(std::proofs::Common::append_assoc))]
-fn push_writes(text: &mut Vec<u8>, writes: &[usize]) -> Result<(), AllocError>
+pub fn push_writes(text: &mut Vec<u8>, writes: &[usize]) -> Result<(), AllocError>
     ensures { OnOk result (text.new.items ≡ text.old.items ++ writes_text writes.now) }
 {
     text.extend_from_slice(b"writes:")?;

@@ -11,4 +11,4 @@ mod operation;
 
 pub use header::{has_repeats, read_exchange_header};
 pub use line::{ExchangeLine, ExchangeOp, TextExchange};
-pub use operation::read_exchange;
+pub use operation::{exchange_in, read_exchange};

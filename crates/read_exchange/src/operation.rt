@@ -21,11 +21,12 @@ pub fn read_exchange(alloc: Global, bytes: &[u8]) -> Result<ExchangeLine, DocErr
     ensures { Gives line_seen result (entry_of bytes.now) }
 {
     let value = read_value(alloc, bytes)?;
-    line_in(alloc, &value)
+    exchange_in(alloc, &value)
 }
 
+/// The same of the value that a line is.
 #[tactic(auto, unfolding(crate::specs::Exchanges::entry_in))]
-fn line_in(alloc: Global, value: &Value) -> Result<ExchangeLine, DocError>
+pub fn exchange_in(alloc: Global, value: &Value) -> Result<ExchangeLine, DocError>
     ensures { Gives line_seen result (entry_in (view value.now)) }
 {
     if is_kind(value, "done") {

@@ -6,7 +6,7 @@ use crate::fakes::Full::{Fails, Stalls};
 use crate::fakes::{Full, Kept, Pieces};
 use board_live::Posted;
 use family_four_slot::FourSlotFamily;
-use fsr_words::{asked_of, tell_refusal};
+use fsr_words::{Request, asked_of, tell_refusal};
 use history_core::Band;
 use program_runs::FSR;
 use program_streams::{Over, Sink, Source};
@@ -32,9 +32,14 @@ fn run<'a, R: Threads + Sync, I: Source, O: Sink, E: Sink>(
     ensures faults { E.failed faults.new ≤ E.failed faults.old + 1 }
 {
     match asked_of(alloc, words) {
-        Ok(asked) => fsr_answers::run::<FourSlotFamily<Posted<Band>>, R, I, O, E>(
-            rt, alloc, asked.want, input, out, faults,
-        ),
+        Ok(asked) => match asked.request {
+            Request::Answer(want) => fsr_answers::run::<FourSlotFamily<Posted<Band>>, R, I, O, E>(
+                rt, alloc, want, input, out, faults,
+            ),
+            Request::Watch { budget } => {
+                fsr_watch_answers::run(alloc, budget, input, out, faults)
+            }
+        },
         Err(refusal) => tell_refusal(alloc, &FSR, refusal, out, faults),
     }
 }

@@ -36,9 +36,20 @@ def name_of(source, style, value):
 
 
 def make_log(source):
-    made, style = make_documents.log(source), source.randrange(len(NAMES))
+    """A header, the operations of one key, or of several one among the other, and maybe the end."""
+    if source.random() < 0.75:
+        return make_one(source)
+    several, style = source.sample((None, 7, "a", [1, 2], "\u00e9"), source.choice((2, 2, 3))), source.randrange(len(NAMES))
+    logs = [make_one(source, {"key": key} if key or source.random() < 0.5 else {}, style) for key in several]
+    ops = sorted((each for log in logs for each in log[1:] if each["kind"] != "done"), key=lambda each: each["begin"])
+    last = [{"kind": "done", "ops": len(ops)}] if source.random() < 0.5 else []
+    return [source.choice(logs)[0], *ops, *last]
+
+
+def make_one(source, key=None, style=None):
+    made, style = make_documents.log(source), source.randrange(len(NAMES)) if style is None else style
     ops, ends = sorted(made["ops"], key=lambda each: each["begin"]), {}
-    told, key = [], source.choice(({}, {}, {"key": None}, {"key": 7}, {"key": "a"}, {"key": [1, 2]}))
+    told, key = [], source.choice(({}, {}, {"key": None}, {"key": 7}, {"key": "a"}, {"key": [1, 2]})) if key is None else key
     for each in ops:
         who = next((who for who in range(9) if ends.get(who, -1) is not None and ends.get(who, -1) < each["begin"]), 9)
         who = each["who"] if source.random() < 0.02 else who

@@ -16,12 +16,28 @@ def answer(data):
     """The text, or of an unlawful log its rule with every reason of it by lines; the line on standard error, and the status."""
     try:
         opening, limit, ops, ended = read(data)
-        rule, found = searches.search(opening, limit or 1, ops)
     except Fault as fault:
         return "", f"fsr: {fault}\n", 3
-    if rule == "lawful":
-        return "lawful\n" + foot(opening, ops, ended), "", 0
-    return (rule, {tuple(place + 2 for place in reason) for reason in found}), "", 1
+    for key in keys_of(ops):
+        own = of_key(ops, key)
+        rule, found = searches.search(opening, limit or 1, own)
+        if rule != "lawful":
+            return (rule, {tuple(own[place]["line"] for place in reason) for reason in found}), "", 1
+    return "lawful\n" + foot(opening, ops, ended), "", 0
+
+
+def keys_of(ops):
+    """The keys, by their first lines; of a log without operations the one of none."""
+    return list(dict.fromkeys(each["key"] for each in ops)) or [None]
+
+
+def of_key(ops, key):
+    return [each for each in ops if each["key"] == key]
+
+
+def key_line(key):
+    text = "null" if key is None else json.dumps(key if isinstance(key, str) else list(key), separators=(",", ":"), ensure_ascii=False)
+    return f"key: {text}\n"
 
 
 def take_write(opening, each, written, number):
@@ -29,41 +45,52 @@ def take_write(opening, each, written, number):
         return
     if each["record"] == opening:
         raise Fault(f"line {number}: writes the opening")
-    if each["record"] in written:
-        raise Fault(f"line {number}: writes the record of line {written[each['record']]}")
-    written[each["record"]] = number
+    it = each["key"], each["record"]
+    if it in written:
+        raise Fault(f"line {number}: writes the record of line {written[it]}")
+    written[it] = number
 
 
 def foot(opening, ops, ended):
     """What stands behind the verdict on a lawful log: how little is shown, if so, and the counts."""
-    every = {opening} | {each["record"] for each in ops if each["record"] is not None}
-    given = {each["record"] for each in ops if each["kind"] == "read" and each["end"] is not None and each["record"] != opening}
-    told = "" if len(given) / len(every) >= 0.01 else "Little was shown: less than 1 % of the records were read.\n"
+    every, given = totals(opening, ops)
+    told = "" if given / every >= 0.01 else "Little was shown: less than 1 % of the records were read.\n"
     return (told if ops else "Nothing was shown: there is no operation.\n") + counts(opening, ops, ended)
 
 
+def totals(opening, ops):
+    """How many records there are, and how many of them finished reads gave, of all keys together."""
+    every = given = 0
+    for key in keys_of(ops):
+        own = of_key(ops, key)
+        every += len({opening} | {each["record"] for each in own if each["record"] is not None})
+        given += len({each["record"] for each in own if each["kind"] == "read" and each["end"] is not None} - {opening})
+    return every, given
+
+
 def counts(opening, ops, ended):
-    records = {opening} | {each["record"] for each in ops if each["record"] is not None}
-    read_ones = {each["record"] for each in ops if each["kind"] == "read" and each["end"] is not None} - {opening}
-    unfinished = sum(each["end"] is None for each in ops)
+    every, given = totals(opening, ops)
+    unfinished, keys = sum(each["end"] is None for each in ops), len(keys_of(ops))
+    several = f", {keys} keys" if keys > 1 else ""
     cut = "" if ended else "; no last line `done`"
-    return f"{len(ops)} operations, {unfinished} unfinished, {len(records)} records, {len(read_ones)} of them read{cut}\n"
+    return f"{len(ops)} operations, {unfinished} unfinished, {every} records, {given} of them read{several}{cut}\n"
 
 
 def told(data, reason):
     """What is printed of a reason, whose first word is the rule and whose others are lines."""
     opening, limit, ops, ended = read(data)
     lines = [int(word) for word in reason[1:]]
-    texts = data.decode().split("\n")
+    texts, key = data.decode().split("\n"), ops[lines[0] - 2]["key"]
     shows = "".join(f"line {line}: {texts[line - 1]}\n" for line in named_by(lines, ops))
-    return f"unlawful {' '.join(reason)}\n" + shows + sentence(reason[0], lines, opening, limit, ops) + counts(opening, ops, ended)
+    which = key_line(key) if len(keys_of(ops)) > 1 else ""
+    return f"unlawful {' '.join(reason)}\n" + shows + sentence(reason[0], lines, opening, limit, ops) + which + counts(opening, ops, ended)
 
 
 def named_by(lines, ops):
-    """The lines of a reason and those of the writes of their records."""
+    """The lines of a reason, which are of one key, and those of the writes of their records."""
     shown = {ops[line - 2]["record"] for line in lines} - {None}
-    return [line for line in range(2, len(ops) + 2)
-            if line in lines or ops[line - 2]["kind"] == "write" and ops[line - 2]["record"] in shown]
+    return [each["line"] for each in of_key(ops, ops[lines[0] - 2]["key"])
+            if each["line"] in lines or each["kind"] == "write" and each["record"] in shown]
 
 
 def most_before(opening, ops):
@@ -80,7 +107,7 @@ def small(data, lines):
     which the log has them first, and tasks those of their first operations among these."""
     opening, limit, ops, _ = read(data)
     numbers = {opening: 0}
-    for each in ops:
+    for each in of_key(ops, ops[lines[0] - 2]["key"]):
         if each["record"] is not None:
             numbers.setdefault(each["record"], len(numbers))
     shown = [ops[line - 2] for line in named_by(lines, ops)]
@@ -91,14 +118,26 @@ def small(data, lines):
 
 
 def is_order_of_writes(data, text):
-    """Whether a lawful log is told with the lines of its writes, in an order that belongs to a lawful one."""
+    """Whether a lawful log is told with the lines of its writes, of each key in an order that belongs to a lawful one."""
     opening, limit, ops, ended = read(data)
-    head, end = "lawful\nwrites:", "\n" + foot(opening, ops, ended)
+    keys = keys_of(ops)
+    head, end = "lawful\n", foot(opening, ops, ended)
     if not text.startswith(head) or not text.endswith(end):
         return False
-    told = [int(word) - 2 for word in text[len(head):-len(end)].split()]
-    return any(not searches.early_refusals(limit or 1, ops, order) and told == [place for place in order if ops[place]["kind"] == "write"]
-               for order in searches.atomic_orders(opening, ops))
+    rows = text[len(head):len(text) - len(end)].split("\n")[:-1]
+    if len(keys) == 1:
+        return len(rows) == 1 and is_order_of(opening, limit, ops, rows[0])
+    return rows[::2] == [key_line(key)[:-1] for key in keys] and len(rows) == 2 * len(keys) and all(
+        is_order_of(opening, limit, of_key(ops, key), row) for key, row in zip(keys, rows[1::2]))
+
+
+def is_order_of(opening, limit, own, row):
+    if not row.startswith("writes:"):
+        return False
+    told = [int(word) for word in row[len("writes:"):].split()]
+    return any(not searches.early_refusals(limit or 1, own, order)
+               and told == [own[place]["line"] for place in order if own[place]["kind"] == "write"]
+               for order in searches.atomic_orders(opening, own))
 
 
 def sentence(rule, lines, opening, limit, ops):
@@ -116,7 +155,8 @@ def sentence(rule, lines, opening, limit, ops):
         return f"Line {lines[1]} gave the opening behind an operation of another record: {apart(*lines)}.\n"
     if rule == "crossed":
         return f"Each of two records has to stand before the other: {apart(*lines[:2])}; {apart(*lines[2:])}.\n"
-    return (f"Of the writes at most {most_before(opening, ops)} can stand before line {first} or a refused write in front of it, "
+    own = of_key(ops, ops[first - 2]["key"])
+    return (f"Of the writes at most {most_before(opening, own)} can stand before line {first} or a refused write in front of it, "
             f"and the limit is {limit or 1}.\n")
 
 
@@ -139,7 +179,7 @@ def read(data):
             check_end(value, number, len(ops), number == len(lines))
             ended = True
             break
-        ops.append(operation_of(value, number, ops[0]["key"] if ops else ..., limit))
+        ops.append(operation_of(value, number, limit))
         take_turn(ops, lasts, number)
         take_write(opening, ops[-1], written, number)
     return opening, limit, ops, ended
@@ -155,11 +195,12 @@ def header_of(line):
 
 def take_turn(ops, lasts, number):
     who = ops[-1]["who"]
-    if who in lasts:
-        end = ops[lasts[who] - 2]["end"]
+    one = ops[-1]["key"], who
+    if one in lasts:
+        end = ops[lasts[one] - 2]["end"]
         if end is None or end >= ops[-1]["begin"]:
-            raise Fault(f"lines {lasts[who]} and {number}: who {who} overlaps itself")
-    lasts[who] = number
+            raise Fault(f"lines {lasts[one]} and {number}: who {who} overlaps itself")
+    lasts[one] = number
 
 
 def check_end(value, number, count, last):
@@ -172,8 +213,8 @@ def check_end(value, number, count, last):
         raise Fault(f"line {number}: law of ops")
 
 
-def operation_of(value, number, first_key, limit):
-    """The operation of a line, which has the key of the first operation."""
+def operation_of(value, number, limit):
+    """The operation of a line, each of whose keys is a register of its own."""
     who, kind, begin, end, record = (asked(value, key, number) for key in ("who", "kind", "begin", "end", "record"))
     found = None if record is None else record_of(record)
     said = value.get("key")
@@ -187,11 +228,9 @@ def operation_of(value, number, first_key, limit):
         raise Fault(f"line {number}: end before begin")
     if found is None and (kind == "write" or end is not None):
         raise Fault(f"line {number}: law of record")
-    if first_key not in (..., own):
-        raise Fault(f"line {number}: law of key")
     if kind == "refused" and limit is None:
         raise Fault(f"line {number}: missing limit")
-    return {"who": who, "kind": kind, "begin": begin, "end": end, "record": found, "key": own}
+    return {"line": number, "who": who, "kind": kind, "begin": begin, "end": end, "record": found, "key": own}
 
 
 def asked(value, key, number):

@@ -1,4 +1,4 @@
--- Operations whose records got numbers. Only private functions cite this, which is this project's own.
+-- Operations whose records got numbers (this project's own).
 use Rattle.std.specs.Prelude.{◌≡◌, ◌⊎◌, ℕ, List, [], ◌∷◌, slice_get, Some}
 use Rattle.object_core.specs.declared.operation.Operation.{Operation}
 use Rattle.object_registers.specs.declared.exchanging.Exchange.{Exchange}
