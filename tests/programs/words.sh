@@ -125,6 +125,7 @@ helps check "Checks that an order of a history is atomic" "[FILE]"
 helps order "Finds a lawful order of a log, or tells why there is none" "[OPTIONS] [FILE]"
 helps play "Plays a schedule and reports its history" "[FILE]"
 helps race "Runs tasks over a board and checks their logs" "[FILE]"
+helps watch "Watches a log as it comes, and tells at once the line at which it is lost" "[OPTIONS] [FILE]"
 
 title="the formats in fsr --help"
 if has_program fsr && "$built/fsr/out/fsr" --help </dev/null | grep -q '^  order .*`lines`.*`log`'; then
@@ -440,6 +441,7 @@ make_small() {
 make_small fsr_check 'echo "fsr: document: not JSON" >&2; exit 3'
 make_small fsr_order 'echo "order $*"'
 make_small fsr_play 'echo "play $*"; exit 1'
+make_small fsr_watch 'echo "watch $*"'
 
 # Sees what the smaller programs make of a document: the status, and what is told on either stream.
 #   answers_small STATUS TOLD DOCUMENT WORDS..
@@ -462,6 +464,8 @@ answers_small 0 "order --strict" "$room/stale.jsonl" order "$room/stale.jsonl" -
 answers_small 0 "order --budget 20000" "$room/stale.jsonl" order --budget 20000 "$room/stale.jsonl"
 answers_small 0 "order " examples/lawful.json order
 answers_small 1 "play " examples/cell.json play
+answers_small 0 "watch " "$room/stale.jsonl" watch
+answers_small 0 "watch --budget 9" "$room/stale.jsonl" watch "$room/stale.jsonl" --budget 9
 answers_small 3 "fsr: document: not JSON" examples/lawful.json check
 
 # Where standard error is closed the answer is the same.

@@ -1,21 +1,45 @@
-//! `fsr`: checks an order of a history, finds one of a log, plays a schedule, or runs a race.
+//! `fsr`: checks an order of a history, finds one of a log, plays a schedule, runs a race, or watches a log as it
+//! comes.
 #![tactic(auto)]
+
+ghost use Rattle.program_streams.specs.Stream.{HasRoom};
 
 use board_live::Posted;
 use family_four_slot::FourSlotFamily;
 use fsr_answers::run;
-use fsr_words::{Want, asked_of, tell_refusal, tell_unopened};
+use fsr_words::{Request, Want, asked_of, tell_refusal, tell_unopened};
 use history_core::Band;
 use program_runs::{FSR, Fault, tell_fault, words_of};
-use program_streams::{Over, can_start};
+use program_streams::{Over, Sink, Source, can_start};
+use std::alloc::Global;
 use std::fs;
 use std::process::ExitCode;
+use std::thread::Threads;
 
 /// A race of 16 tasks needs as many threads besides the caller's.
 const MOST_THREADS: usize = 15;
 
 /// What the board of a race stands on.
 type Boards = FourSlotFamily<Posted<Band>>;
+
+/// Serves a request over these streams, and gives the status that the run ends with.
+fn serve<R: Threads + Sync, I: Source, O: Sink, E: Sink>(
+    rt: &R,
+    alloc: Global,
+    request: Request,
+    input: &mut I,
+    out: &mut O,
+    faults: &mut E,
+) -> u8
+    requires input { HasRoom (I.failed input.old) }
+    requires out { HasRoom (O.failed out.old) }
+    requires faults { HasRoom (E.failed faults.old) }
+{
+    match request {
+        Request::Answer(want) => run::<Boards, _, _, _, _>(rt, alloc, want, input, out, faults),
+        Request::Watch { budget } => fsr_watch_answers::run(alloc, budget, input, out, faults),
+    }
+}
 
 fn main(rt: HostRuntime) -> ExitCode {
     let mut faults = Over::new(rt.stderr());
@@ -32,21 +56,21 @@ fn main(rt: HostRuntime) -> ExitCode {
         }
     };
     // if no thread could start, the tasks of a race would run in turn, and show nothing
-    if asked.want == Want::Race && !can_start(&rt, MOST_THREADS) {
+    if asked.request == Request::Answer(Want::Race) && !can_start(&rt, MOST_THREADS) {
         let status = tell_fault(rt.alloc(), &FSR, &mut faults, &Fault::NoThread);
         return ExitCode::from(status);
     }
     let mut out = Over::new(rt.stdout());
-    let (alloc, want) = (rt.alloc(), asked.want);
+    let (alloc, request) = (rt.alloc(), asked.request);
     let status = match asked.file {
         None => {
             let mut input = Over::new(rt.stdin());
-            run::<Boards, _, _, _, _>(&rt, alloc, want, &mut input, &mut out, &mut faults)
+            serve(&rt, alloc, request, &mut input, &mut out, &mut faults)
         }
         Some(name) => match fs::open(&rt, name) {
             Ok(file) => {
                 let mut input = Over::new(file);
-                run::<Boards, _, _, _, _>(&rt, alloc, want, &mut input, &mut out, &mut faults)
+                serve(&rt, alloc, request, &mut input, &mut out, &mut faults)
             }
             Err(_) => tell_unopened(alloc, &FSR, name, &mut faults),
         },

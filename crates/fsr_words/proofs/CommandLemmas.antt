@@ -10,8 +10,8 @@ use Rattle.clap.specs.declared.error.Error.{Error}
 use Rattle.clap.specs.declared.error.kind.ErrorKind.TheVariants as kind
 use Rattle.clap.specs.declared.parser.matches.ArgMatches.{ArgMatches}
 use Rattle.clap.proofs.OnLiterals.{clap_on_literals}
-use Rattle.fsr_words.specs.declared.command.Want.{Want}
-use Rattle.fsr_words.specs.Command.{fsr, command_of, file_in, file_of, is_true, want_in, want_named}
+use Rattle.fsr_words.specs.declared.command.Request.{Request}
+use Rattle.fsr_words.specs.Command.{fsr, command_of, file_in, file_of, is_true, request_in, request_named}
 
 pub fsr_is_simple : is_simple fsr ≡ true
 unfolding clap_on_literals
@@ -29,20 +29,21 @@ option_map-option_map f g (Some x) = refl
 name-rows : (m : ArgMatches) → subcommand_name_of m ≡ option_map (λ p. p.0) (subcommand_rows_of m)
 name-rows m = option_map-option_map (λ p. p.0) _ _
 
-want_among : (o : Option (Text × List Row)) (name : Text) (rows : List Row) → Some name ≡ option_map (λ p. p.0) o
-    → Some rows ≡ option_map (λ p. p.1) o → want_named name rows ≡ want_in o
-want_among None name rows named found = absurd (none-some name (sym named))
-want_among (Some p) name rows named found =
-    ap (λ (n : Text). want_named n rows) (same_Some name p.0 named) ∙ ap (λ (r : List Row). want_named p.0 r) (same_Some rows p.1 found)
+request_among : (o : Option (Text × List Row)) (name : Text) (rows : List Row) → Some name ≡ option_map (λ p. p.0) o
+    → Some rows ≡ option_map (λ p. p.1) o → request_named name rows ≡ request_in o
+request_among None name rows named found = absurd (none-some name (sym named))
+request_among (Some p) name rows named found =
+    ap (λ (n : Text). request_named n rows) (same_Some name p.0 named)
+    ∙ ap (λ (r : List Row). request_named p.0 r) (same_Some rows p.1 found)
 
 -- the name and the matches of a subcommand give its command, and where there is none there is no command
-pub want_of_subcommand : (m : ArgMatches) (name : Text) (rows : List Row) (want : Option Want) → Some name ≡ subcommand_name_of m
-    → Some rows ≡ option_map (λ p. p.1) (subcommand_rows_of m) → want ≡ want_named name rows → want ≡ want_in (subcommand_rows_of m)
-want_of_subcommand m name rows want named found is = is ∙ want_among (subcommand_rows_of m) name rows (named ∙ name-rows m) found
+pub request_of_subcommand : (m : ArgMatches) (name : Text) (rows : List Row) (asked : Option Request) → Some name ≡ subcommand_name_of m
+    → Some rows ≡ option_map (λ p. p.1) (subcommand_rows_of m) → asked ≡ request_named name rows → asked ≡ request_in (subcommand_rows_of m)
+request_of_subcommand m name rows asked named found is = is ∙ request_among (subcommand_rows_of m) name rows (named ∙ name-rows m) found
 
-pub want_nowhere : (o : Option (Text × List Row)) → None ≡ option_map (λ p. p.1) o → None ≡ want_in o
-want_nowhere None e = refl
-want_nowhere (Some p) e = absurd (none-some p.1 e)
+pub request_nowhere : (o : Option (Text × List Row)) → None ≡ option_map (λ p. p.1) o → None ≡ request_in o
+request_nowhere None e = refl
+request_nowhere (Some p) e = absurd (none-some p.1 e)
 
 -- a flag is there if its value is `true`
 pub told_by_value : (o : Option Text) (value : Text) (told : Bool) → Some value ≡ o →
@@ -55,15 +56,15 @@ told_by_none None e = refl
 told_by_none (Some v) e = absurd (none-some v e)
 
 -- the parse succeeded, and its subcommand gives this command, or none
-pub parsed : (a : App) (words : List Text) (m : ArgMatches) (want : Option Want) → a ≡ fsr
-    → (is_simple_and_free a ≡ true → fault_of a words ≡ []) → HasMatchesOf a words m → want ≡ want_in (subcommand_rows_of m)
-    → command_of words ≡ want
-parsed a words m want is_fsr faults matches is =
+pub parsed : (a : App) (words : List Text) (m : ArgMatches) (asked : Option Request) → a ≡ fsr
+    → (is_simple_and_free a ≡ true → fault_of a words ≡ []) → HasMatchesOf a words m → asked ≡ request_in (subcommand_rows_of m)
+    → command_of words ≡ asked
+parsed a words m asked is_fsr faults matches is =
     let no_fault : fault_of fsr words ≡ [] =
     ap (λ b. fault_of b words) (sym is_fsr) ∙ faults (ap is_simple_and_free is_fsr ∙ fsr_is_free) in
     let rows : subcommand_rows_of m ≡ subcommand_of fsr words =
     (matches (ap is_simple is_fsr ∙ fsr_is_simple)).1 ∙ ap (λ b. subcommand_of b words) is_fsr in
-    rw no_fault (sym (is ∙ ap want_in rows))
+    rw no_fault (sym (is ∙ ap request_in rows))
 
 some_kind : (kinds : Kinds) (e : Error) → kind_of e ≢ kind.OutOfMemory → HasKind kinds e → is_empty kinds ≡ false
 some_kind kinds e other (inl memory) = absurd (other memory)

@@ -15,7 +15,8 @@ use Rattle.clap.specs.declared.error.Error.{Error}
 use Rattle.clap.specs.declared.error.kind.ErrorKind.TheVariants.{DisplayHelp, DisplayVersion}
 use Rattle.fsr_words.specs.declared.command.NoCommand.{NoCommand}
 use Rattle.fsr_words.specs.declared.command.NoCommand.TheVariants.{Refused, Unknown, NoMemory}
-use Rattle.fsr_words.specs.declared.command.Want.{Want}
+use Rattle.fsr_words.specs.declared.command.Request.{Request}
+use Rattle.fsr_words.specs.declared.command.Request.TheVariants.{Answer, Watch}
 use Rattle.fsr_words.specs.declared.command.Want.TheVariants.{Check, Order, Play, Race}
 
 -- a subcommand that may have the name of a file
@@ -44,13 +45,22 @@ abbrev pub over_a_log : Shape
 over_a_log =
     (with_rule (with_flags (with_rule (new_app (codes "order")) (new_rule (codes "FILE")))) budget).top
 
+-- the subcommand that may be told how to judge a log as it comes
+abbrev pub over_a_coming_log : Shape
+over_a_coming_log = (with_rule (with_rule (new_app (codes "watch")) (new_rule (codes "FILE"))) budget).top
+
+-- the subcommands over documents
+abbrev pub with_documents : App → App
+with_documents app =
+    with_subcommand (with_subcommand (with_subcommand (with_subcommand app (over_a_document (codes "check")))
+    over_a_log) (over_a_document (codes "play"))) (over_a_document (codes "race"))
+
 -- the command line of `fsr`: one of the subcommands is required
 abbrev pub fsr : App
 fsr =
     let none : App =
     on_top (λ s. record s { subcommand_required = true; has_version = true }) (new_app (codes "fsr")) in
-    with_subcommand (with_subcommand (with_subcommand (with_subcommand none (over_a_document (codes "check")))
-    over_a_log) (over_a_document (codes "play"))) (over_a_document (codes "race"))
+    with_subcommand (with_documents none) over_a_coming_log
 
 abbrev pub is_true : Option Text → Bool
 is_true None = false
@@ -75,20 +85,21 @@ show_in rows = record {
   budget = budget_in rows;
 }
 
-abbrev pub want_named : Text → List Row → Option Want
-want_named name rows = if bytes_eq name (codes "check") then Some Check
-    else (if bytes_eq name (codes "order") then Some (Order (show_in rows))
-    else (if bytes_eq name (codes "play") then Some Play
-    else (if bytes_eq name (codes "race") then Some Race
-    else None)))
+abbrev pub request_named : Text → List Row → Option Request
+request_named name rows = if bytes_eq name (codes "check") then Some (Answer Check)
+    else (if bytes_eq name (codes "order") then Some (Answer (Order (show_in rows)))
+    else (if bytes_eq name (codes "play") then Some (Answer Play)
+    else (if bytes_eq name (codes "race") then Some (Answer Race)
+    else (if bytes_eq name (codes "watch") then Some (Watch (budget_in rows))
+    else None))))
 
--- the command of a subcommand with these matches
-abbrev pub want_in : Option (Text × List Row) → Option Want
-want_in found = option_and_then (λ p. want_named p.0 p.1) found
+-- what a subcommand with these matches asks for
+abbrev pub request_in : Option (Text × List Row) → Option Request
+request_in found = option_and_then (λ p. request_named p.0 p.1) found
 
 -- nothing where clap refuses the words
-abbrev pub command_of : List Text → Option Want
-command_of words = if is_empty (fault_of fsr words) then want_in (subcommand_of fsr words) else None
+abbrev pub command_of : List Text → Option Request
+command_of words = if is_empty (fault_of fsr words) then request_in (subcommand_of fsr words) else None
 
 -- the file that a subcommand with these matches names
 abbrev pub file_in : Option (Text × List Row) → Option Text
@@ -99,7 +110,7 @@ abbrev pub file_of : List Text → Option Text
 file_of words = if is_empty (fault_of fsr words) then file_in (subcommand_of fsr words) else None
 
 -- the words are no command, unless memory ran out
-abbrev pub Refuses : NoCommand → Option Want → Type 0
+abbrev pub Refuses : NoCommand → Option Request → Type 0
 Refuses NoMemory found = Unit {0}
 Refuses (Refused e) found = found ≡ None
 Refuses Unknown found = found ≡ None

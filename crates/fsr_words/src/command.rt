@@ -1,7 +1,8 @@
 ghost use Rattle.std.specs.Prelude.{◌≡◌, ◌≢◌, None, Some, false, map, option_map, unwrap_or, IfOk, IfErr};
 ghost use Rattle.clap.specs.Words.{app_of, found_of, rows_of, rule_of, subcommand_rows_of, with_subcommand};
 ghost use Rattle.fsr_words.specs.Command.{fsr, budget, budget_in, command_of, file_in, file_of, flag, is_told};
-ghost use Rattle.fsr_words.specs.Command.{over_a_document, over_a_log, show_in, want_in, want_named};
+ghost use Rattle.fsr_words.specs.Command.{over_a_coming_log, over_a_document, over_a_log, request_in, request_named};
+ghost use Rattle.fsr_words.specs.Command.{show_in, with_documents};
 ghost use Rattle.fsr_words.specs.Command.{budget_named, Refuses};
 ghost use Rattle.program_runs.specs.Shows.{usual_budget};
 
@@ -21,10 +22,19 @@ pub enum Want {
     Race,
 }
 
-/// A command, and the file that it takes its document from, if one is named.
+/// What is asked of `fsr`.
+#[derive(Clone, Copy, Debug, PartialEq, Eq)]
+pub enum Request {
+    /// A command over a document.
+    Answer(Want),
+    /// To watch a log as it comes, of which so many configurations may be held.
+    Watch { budget: usize },
+}
+
+/// A request, and the file that it takes its document or log from, if one is named.
 #[derive(Clone, Copy, Debug)]
 pub struct Asked<'a> {
-    pub want: Want,
+    pub request: Request,
     pub file: Option<&'a str>,
 }
 
@@ -46,7 +56,8 @@ const FORMATS: &str = "What each command reads, as docs/FORMATS.md has it:
   check  a history with an order of it, a document of kind `check`
   order  a log, in lines (JSON Lines of kind `lines`) or as a document of kind `log`
   play   a schedule, a document of kind `cell`, `matrix` or `board`
-  race   the scripts of tasks, a document of kind `race`";
+  race   the scripts of tasks, a document of kind `race`
+  watch  a log in lines with floors, as it comes";
 
 /// The command line with one command more, over a document, which is read from standard input where no file is named.
 fn with_command<'a>(
@@ -89,6 +100,21 @@ fn with_order<'a>(alloc: Global, line: Command<'a>) -> Result<Command<'a>, Alloc
     line.subcommand(command)
 }
 
+/// The command line with the command `watch` more, which may be told how to judge.
+fn with_watch<'a>(alloc: Global, line: Command<'a>) -> Result<Command<'a>, AllocError>
+    ensures { IfOk result (λ c. app_of c ≡ with_subcommand (app_of line.entry) over_a_coming_log) }
+{
+    let file = Arg::new(alloc, "FILE").help("The log, in place of standard input");
+    let budget = budget(alloc).help(
+        "How many configurations may be held: 1 to 1000000000, else 10000",
+    );
+    let command = Command::new(alloc, "watch")
+        .about("Watches a log as it comes, and tells at once the line at which it is lost")
+        .arg(file)?
+        .arg(budget)?;
+    line.subcommand(command)
+}
+
 /// How many configurations may be held.
 fn budget<'a>(alloc: Global) -> Arg<'a>
     ensures rule { rule_of result ≡ budget }
@@ -109,15 +135,10 @@ fn flag<'a>(alloc: Global, name: &'a str) -> Arg<'a>
     Arg::new(alloc, name).long(name).action(ArgAction::SetTrue)
 }
 
-/// The command line of `fsr`, which has this name in what clap tells, whatever the file is called.
-fn command_line<'a>(alloc: Global) -> Result<Command<'a>, AllocError>
-    ensures { IfOk result (λ c. app_of c ≡ fsr) }
+/// The command line with the commands over documents.
+fn with_documents<'a>(alloc: Global, line: Command<'a>) -> Result<Command<'a>, AllocError>
+    ensures { IfOk result (λ c. app_of c ≡ with_documents (app_of line.entry)) }
 {
-    let line = Command::new(alloc, "fsr")
-        .about("Reads a document from a file or from standard input")
-        .version(VERSION)
-        .after_help(FORMATS)
-        .subcommand_required(true);
     let line = with_command(
         alloc,
         line,
@@ -131,32 +152,48 @@ fn command_line<'a>(alloc: Global) -> Result<Command<'a>, AllocError>
         "play",
         "Plays a schedule and reports its history",
     )?;
-    let line = with_command(
+    with_command(
         alloc,
         line,
         "race",
         "Runs tasks over a board and checks their logs",
-    )?;
+    )
+}
+
+/// The command line of `fsr`, which has this name in what clap tells, whatever the file is called.
+fn command_line<'a>(alloc: Global) -> Result<Command<'a>, AllocError>
+    ensures { IfOk result (λ c. app_of c ≡ fsr) }
+{
+    let line = Command::new(alloc, "fsr")
+        .about("Reads a document from a file or from standard input")
+        .version(VERSION)
+        .after_help(FORMATS)
+        .subcommand_required(true);
+    let line = with_documents(alloc, line)?;
+    let line = with_watch(alloc, line)?;
     line.bin_name("fsr")
 }
 
-fn want_in(matches: &ArgMatches<'_>) -> Option<Want>
-    ensures { result ≡ want_in (subcommand_rows_of matches.now) }
+fn request_in(matches: &ArgMatches<'_>) -> Option<Request>
+    ensures { result ≡ request_in (subcommand_rows_of matches.now) }
 {
     match matches.subcommand() {
-        Some((name, found)) => want_named(name, found),
+        Some((name, found)) => request_named(name, found),
         None => None,
     }
 }
 
-fn want_named(name: &str, found: &ArgMatches<'_>) -> Option<Want>
-    ensures { result ≡ want_named name.now (rows_of (found_of found.now)) }
+fn request_named(name: &str, found: &ArgMatches<'_>) -> Option<Request>
+    ensures { result ≡ request_named name.now (rows_of (found_of found.now)) }
 {
     match name {
-        "check" => Some(Want::Check),
-        "order" => Some(Want::Order(show_in(found))),
-        "play" => Some(Want::Play),
-        "race" => Some(Want::Race),
+        "check" => Some(Request::Answer(Want::Check)),
+        "order" => Some(Request::Answer(Want::Order(show_in(found)))),
+        "play" => Some(Request::Answer(Want::Play)),
+        "race" => Some(Request::Answer(Want::Race)),
+        "watch" => Some(Request::Watch {
+            budget: budget_in(found),
+        }),
         _ => None,
     }
 }
@@ -209,7 +246,7 @@ fn is_told(found: &ArgMatches<'_>, flag: &str) -> bool
 
 /// What the words ask for. The first word is the program's name.
 pub fn asked_of<'a, S: AsStr>(alloc: Global, words: &'a [S]) -> Result<Asked<'a>, NoCommand>
-    ensures want { IfOk result (λ asked. command_of (map S.text words.now) ≡ Some asked.want) }
+    ensures request { IfOk result (λ asked. command_of (map S.text words.now) ≡ Some asked.request) }
     ensures file { IfOk result (λ asked. option_map (λ name. name.now) asked.file ≡ file_of (map S.text words.now)) }
     ensures err { IfErr result (λ e. Refuses e (command_of (map S.text words.now))) }
 {
@@ -219,8 +256,8 @@ pub fn asked_of<'a, S: AsStr>(alloc: Global, words: &'a [S]) -> Result<Asked<'a>
     match line.try_get_matches_from(words) {
         Ok(matches) => {
             let file = file_in(&matches);
-            match want_in(&matches) {
-                Some(want) => Ok(Asked { want, file }),
+            match request_in(&matches) {
+                Some(request) => Ok(Asked { request, file }),
                 None => Err(NoCommand::Unknown),
             }
         }

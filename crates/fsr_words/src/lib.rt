@@ -5,5 +5,5 @@ mod command;
 pub mod laws;
 mod refusal;
 
-pub use command::{Asked, NoCommand, Want, asked_of};
+pub use command::{Asked, NoCommand, Request, Want, asked_of};
 pub use refusal::{tell_refusal, tell_unopened};

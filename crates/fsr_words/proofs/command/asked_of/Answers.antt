@@ -6,8 +6,8 @@ use Rattle.clap.specs.declared.error.kind.ErrorKind.TheVariants as kind
 use Rattle.fsr_words.proofs.CommandLemmas.{file_parsed, parsed, refused}
 use Rattle.fsr_words.proofs.command.asked_of.Goals as goal
 
-pub returns-in-Some-clause-want : goal.returns-in-Some-clause-want
-returns-in-Some-clause-want g c =
+pub returns-in-Some-clause-request : goal.returns-in-Some-clause-request
+returns-in-Some-clause-request g c =
     let parse = c.in-Ok-try_get_matches_from in
     parsed _ _ parse.matches _ c.in-Ok.ensures parse.ensures.kinds parse.ensures.matches c.in-Some.ensures
 

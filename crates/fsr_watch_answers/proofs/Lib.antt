@@ -1,0 +1,4 @@
+pub mod FrontLemmas
+pub mod PieceLemmas
+pub mod ReplyLemmas
+pub mod RunLemmas

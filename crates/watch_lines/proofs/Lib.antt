@@ -1,0 +1,3 @@
+pub mod LinedLemmas
+pub mod ForwardLemmas
+pub mod WatcherLemmas

@@ -1,0 +1,17 @@
+-- Each kind of line is taken by its own call.
+use Rattle.std.proofs.Common.{ap, sym, subst, ◌∙◌, Ok}
+use Rattle.watch_lines.specs.WatchEntries.{watched_seen}
+use Rattle.watch_lines.specs.Watchers.{TakesEntry}
+use Rattle.watch_lines.specs.declared.line.WatchLine.{WatchLine}
+use Rattle.watch_lines.specs.declared.line.WatchLine.TheVariants.{Exchange}
+use Rattle.watch_lines.proofs.watcher.Watcher.enter.Goals as goal
+
+pub returns-in-Exchange-Operation : goal.returns-in-Exchange-Operation
+returns-in-Exchange-Operation c = λ s k before next.
+    let P : WatchLine → Type 0 = λ r. TakesEntry s (Ok (watched_seen r)) c.take.result in
+    subst P (sym (c.in-Exchange-Operation.is ∙ ap Exchange c.in-Exchange-Operation.field-0-is)) (c.take.ensures s k before next)
+
+pub returns-in-Exchange-Done : goal.returns-in-Exchange-Done
+returns-in-Exchange-Done c = λ s k before next.
+    let P : WatchLine → Type 0 = λ r. TakesEntry s (Ok (watched_seen r)) c.end_at.result in
+    subst P (sym (c.in-Exchange-Done.is ∙ ap Exchange c.in-Exchange-Done.field-0-is)) (c.end_at.ensures s k before next)

@@ -1,0 +1,10 @@
+-- The operation stands behind the others.
+use Rattle.watch_lines.proofs.WatcherLemmas.{pushed}
+use Rattle.std.proofs.Common.{refl}
+use Rattle.watch_lines.proofs.watcher.Watcher.push.Goals as goal
+
+pub returns : goal.returns
+returns c = λ s k here.
+    pushed s c.args.self.now _ c.args.op c.in_ok-next.next c.args.line k here (c.in_ok-next.ensures s.records k.numbering)
+    c.in_ok-self.ensures c.in_ok-take_lined.ensures.moment (c.in_ok-take_lined.ensures.taken s.log k.watch)
+    c.in_ok-keep_key.ensures refl refl refl

@@ -1,0 +1,152 @@
+-- What the lines so far of a log that is watched say (this project's own).
+use Rattle.std.specs.Prelude.{◌≡◌, ℕ, ◌+◌, ◌∷◌, [], ◌++◌, List, length, map, max, nat_lt, Bool, true, false}
+use Rattle.std.specs.Prelude.{if◌then◌else◌}
+use Rattle.std.specs.Prelude.{slice_get, Option, None, Some, is_some, ◌==◌, Result, Ok, Err}
+use Rattle.std.specs.Option.{option_map_or}
+use Rattle.object_core.specs.declared.operation.Operation.{Operation}
+use Rattle.object_registers.specs.declared.exchanging.Exchange.{Exchange}
+use Rattle.read_document.specs.declared.refusal.DocError.{DocError}
+use Rattle.read_document.specs.declared.refusal.DocError.TheVariants.{Law, Missing, NotJson, Shape}
+use Rattle.read_document.specs.declared.key.Key.TheVariants as key
+use Rattle.read_line.specs.Numberings.{AreDistinct}
+use Rattle.lines_log.specs.Faults.{refused_at}
+use Rattle.lines_log.specs.Logs.{same_key}
+use Rattle.read_exchange.specs.Exchanges.{done, ExchangeEntry, KeyedExchange, operation, refused}
+use Rattle.exchanges_log.specs.ExchangeLogs.{IsNumberedExchange, texts_of, uncertain_in, unfinished_in}
+use Rattle.exchanges_log.specs.ExchangeNumbers.{GrowBy}
+use Rattle.watch_lines.specs.Lined.{without_line}
+use Rattle.watch_lines.specs.WatchEntries.{blank, floor, said, WatchEntry}
+use Rattle.watch_lines.specs.declared.lined.Lined.{Lined}
+use Rattle.watch_lines.specs.declared.told.Counts.{Counts}
+use Rattle.watch_lines.specs.declared.told.Floor.{Floor}
+use Rattle.watch_lines.specs.declared.told.WatchFault.{WatchFault}
+use Rattle.watch_lines.specs.declared.told.WatchFault.TheVariants.{Below, Refused}
+
+-- how many lines there are with the header; the records, each with its place for its number; the operations; the key of
+-- each of them, once there is one; the highest floor, with the first line that has it, and how many floors there are;
+-- and the line of the end, if it was read
+pub record LinesSeen : Type 0 where
+  pub lines : ℕ
+  pub records : List (List ℕ)
+  pub log : List (Operation Lined)
+  pub key : Option (Option (List ℕ))
+  pub high : Option Floor
+  pub floors : ℕ
+  pub ended : Option ℕ
+
+-- behind a header
+abbrev pub opened_with : List ℕ → LinesSeen
+opened_with opening = record {
+  lines = 1;
+  records = opening ∷ [];
+  log = [];
+  key = None;
+  high = None;
+  floors = 0;
+  ended = None;
+}
+
+-- no operation on a later line begins before this moment
+abbrev pub moment_of : Option Floor → ℕ
+moment_of high = option_map_or (λ (f : Floor). f.at) high 0
+
+-- the operations without their lines, and their counts
+abbrev pub bare : List (Operation Lined) → List (Operation Exchange)
+bare log = map without_line log
+
+abbrev pub counts_of : LinesSeen → Counts
+counts_of s = record {
+  ops = length s.log;
+  unfinished = unfinished_in (bare s.log);
+  uncertain = uncertain_in (bare s.log);
+  floors = s.floors;
+}
+
+-- ---- the fault of one more line, if it has one
+
+-- all operations have one key
+abbrev pub has_key : Option (Option (List ℕ)) → Option (List ℕ) → Bool
+has_key None which = true
+has_key (Some all) which = same_key all which
+
+-- an operation begins below the highest floor
+abbrev pub below : Option Floor → ℕ → ℕ → Option WatchFault
+below None line begins = None
+below (Some high) line begins =
+    if nat_lt begins high.at then Some (Below line high.line) else None
+
+abbrev pub refusal_at : ℕ → DocError → WatchFault
+refusal_at line why = Refused (refused_at line why)
+
+-- of an operation, of a refused write, and of the end
+abbrev pub entry_fault : LinesSeen → ℕ → ExchangeEntry → Option WatchFault
+entry_fault s line (operation o) =
+    if has_key s.key o.key then below s.high line o.op.starts else Some (refusal_at line (Law key.Key))
+entry_fault s line (refused which) =
+    Some (refusal_at line (if has_key s.key which then Missing key.Limit else Law key.Key))
+entry_fault s line (done ops) = if ops == length s.log then None else Some (refusal_at line (Law key.Ops))
+
+abbrev pub line_fault : LinesSeen → ℕ → Result WatchEntry DocError → Option WatchFault
+line_fault s line (Ok (said entry)) = entry_fault s line entry
+line_fault s line (Ok (floor at)) = None
+line_fault s line (Ok blank) = None
+line_fault s line (Err why) = Some (refusal_at line why)
+
+-- behind the end stands white space alone
+abbrev pub late_fault : ℕ → Result WatchEntry DocError → Option WatchFault
+late_fault end (Ok blank) = None
+late_fault end (Ok (floor at)) = Some (refusal_at end (Shape key.Kind))
+late_fault end (Ok (said entry)) = Some (refusal_at end (Shape key.Kind))
+late_fault end (Err why) = Some (refusal_at end (Shape key.Kind))
+
+abbrev pub fault_by : Option ℕ → LinesSeen → Result WatchEntry DocError → Option WatchFault
+fault_by None s entry = line_fault s (s.lines + 1) entry
+fault_by (Some end) s entry = late_fault end entry
+
+abbrev pub fault_of : LinesSeen → Result WatchEntry DocError → Option WatchFault
+fault_of s entry = fault_by s.ended s entry
+
+-- ---- what is seen with one more line that has none
+
+abbrev pub higher : Option Floor → ℕ → ℕ → Option Floor
+higher None at line = Some (record { at = at; line = line })
+higher (Some high) at line = if nat_lt high.at at then Some (record { at = at; line = line }) else Some high
+
+abbrev pub with_line : LinesSeen → LinesSeen
+with_line s = record s { lines = s.lines + 1 }
+
+abbrev pub with_floor : LinesSeen → ℕ → LinesSeen
+with_floor s at = record s { lines = s.lines + 1; high = higher s.high at (s.lines + 1); floors = s.floors + 1 }
+
+abbrev pub with_end : LinesSeen → LinesSeen
+with_end s = record s { lines = s.lines + 1; ended = Some (s.lines + 1) }
+
+-- all have the key of the first
+abbrev pub key_with : Option (Option (List ℕ)) → Option (List ℕ) → Option (Option (List ℕ))
+key_with None which = Some which
+key_with (Some all) which = Some all
+
+-- an operation more, which knows its line and has the numbers of its records
+pub record HasOperation (s : LinesSeen) (o : KeyedExchange) (t : LinesSeen) : Type 0 where
+  pub op : Operation Lined
+  pub is : IsNumberedExchange t.records o.op (without_line op)
+  pub line : op.what.line ≡ s.lines + 1
+  pub grow : GrowBy s.records (texts_of o.op.what) t.records
+  pub distinct : AreDistinct t.records
+  pub made : t ≡ record s {
+    lines = s.lines + 1;
+    records = t.records;
+    log = s.log ++ op ∷ [];
+    key = key_with s.key o.key;
+  }
+
+abbrev pub HasEntry : LinesSeen → ExchangeEntry → LinesSeen → Type 0
+HasEntry s (operation o) t = HasOperation s o t
+HasEntry s (refused which) t = ⊥
+HasEntry s (done ops) t = t ≡ with_end s
+
+abbrev pub HasLine : LinesSeen → Result WatchEntry DocError → LinesSeen → Type 0
+HasLine s (Ok (said entry)) t = HasEntry s entry t
+HasLine s (Ok (floor at)) t = t ≡ with_floor s at
+HasLine s (Ok blank) t = t ≡ with_line s
+HasLine s (Err why) t = ⊥

@@ -1,0 +1,66 @@
+-- What a watcher knows of the lines that it has read (this project's own).
+use Rattle.std.specs.Prelude.{◌≡◌, ℕ, ◌<◌, List, option_map, Option, None, Some, Result, Err, string_bytes}
+use Rattle.object_core.specs.declared.operation.Operation.{Operation}
+use Rattle.object_watch.specs.Watches.{AreTooManyAt, IsLawfulBetween, IsFirstLost, IsWatchOf}
+use Rattle.object_watch.specs.declared.watch.Risen.{Risen}
+use Rattle.object_watch.specs.declared.watch.Risen.TheVariants.{Open, Lost, TooMany}
+use Rattle.program_runs.specs.declared.fault.Fault.TheVariants.{NoMemory}
+use Rattle.read_exchange.specs.Exchanges.{KeyedExchange}
+use Rattle.read_document.specs.declared.refusal.DocError.{DocError}
+use Rattle.read_line.specs.Numberings.{IsNumbering}
+use Rattle.watch_lines.specs.Lined.{lined_after}
+use Rattle.watch_lines.specs.Replies.{TellsIf}
+use Rattle.watch_lines.specs.Seen.{counts_of, HasOperation, moment_of, LinesSeen}
+use Rattle.watch_lines.specs.Steps.{ComesTo, goes_on, IsLawfulTo, IsStep, opened, RisesTo, stops}
+use Rattle.watch_lines.specs.WatchEntries.{WatchEntry}
+use Rattle.watch_lines.specs.declared.lined.Lined.{Lined}
+use Rattle.watch_lines.specs.declared.lined.LinedRegister.{LinedRegister}
+use Rattle.watch_lines.specs.declared.told.Floor.{Floor}
+use Rattle.watch_lines.specs.declared.told.WatchFault.TheVariants.{Refused}
+use Rattle.watch_lines.specs.declared.watcher.Step.{Step}
+use Rattle.watch_lines.specs.declared.watcher.Step.TheVariants.{GoesOn, Stops}
+use Rattle.watch_lines.specs.declared.watcher.Watcher.{Watcher}
+
+pub record Knows (s : LinesSeen) (w : Watcher) : Type 0 where
+  pub lines : w.lines ≡ s.lines
+  pub numbering : IsNumbering s.records w.numbering
+  pub watch : IsWatchOf lined_after opened s.log w.watch
+  pub moment : w.watch.moment ≡ moment_of s.high
+  pub key : option_map (option_map string_bytes) w.key ≡ s.key
+  pub high : w.high ≡ s.high
+  pub counts : w.counts ≡ counts_of s
+  pub ended : w.ended ≡ s.ended
+
+abbrev pub KnowsIf : Option LinesSeen → Option Watcher → Type 0
+KnowsIf None None = Unit {0}
+KnowsIf None (Some w) = ⊥
+KnowsIf (Some s) None = ⊥
+KnowsIf (Some s) (Some w) = Knows s w
+
+-- how a line that says this is taken
+abbrev pub TakesEntry : LinesSeen → Result WatchEntry DocError → Step → Type 0
+TakesEntry s entry (GoesOn w) = (t : LinesSeen) × IsStep s entry (goes_on t) × Knows t w
+TakesEntry s entry (Stops reply) = TellsIf (λ r. IsStep s entry (stops r)) reply
+
+-- how a line is taken
+abbrev pub TakesLine : Option LinesSeen → List ℕ → Step → Type 0
+TakesLine s line (GoesOn w) = (t : LinesSeen) × ComesTo s line (goes_on t) × Knows t w
+TakesLine s line (Stops reply) = TellsIf (λ r. ComesTo s line (stops r)) reply
+
+-- an operation is taken, unless memory ran out
+abbrev pub TakesOperation : LinesSeen → KeyedExchange → Step → Type 0
+TakesOperation s o (GoesOn w) = (t : LinesSeen) × HasOperation s o t × Knows t w
+TakesOperation s o (Stops reply) = reply ≡ Err (Refused NoMemory)
+
+-- nothing more begins before a moment
+abbrev pub IsRisenBefore : List (Operation Lined) → ℕ → ℕ → Risen LinedRegister Lined → Type 0
+IsRisenBefore log from to (Open watch) =
+    (watch.moment ≡ to) × IsWatchOf lined_after opened log watch × IsLawfulBetween lined_after opened log from to
+IsRisenBefore log from to (Lost at op) = (at < to) × IsFirstLost lined_after opened log from at op
+IsRisenBefore log from to (TooMany at) = (at < to) × AreTooManyAt lined_after opened log from at
+
+-- the floor rises
+abbrev pub RisesNow : LinesSeen → Option Floor → Step → Type 0
+RisesNow s high (GoesOn w) =
+    Knows (record s { high = high }) w × IsLawfulTo s.log (moment_of s.high) (moment_of high)
+RisesNow s high (Stops reply) = TellsIf (RisesTo s.log (moment_of s.high) (moment_of high) s.lines) reply

@@ -1,0 +1,74 @@
+//! A line behind the header.
+ghost use Rattle.std.specs.Prelude.{◌≡◌, IfOk};
+ghost use Rattle.std.specs.Char.{is_ascii_whitespace};
+ghost use Rattle.std.specs.List.{list_all};
+ghost use Rattle.serde_json.specs.View.{view};
+ghost use Rattle.read_document.specs.Refusals.{Gives};
+ghost use Rattle.watch_lines.specs.WatchEntries.{floor_in, is_blank, RunsForwards, watch_entry_in, watch_entry_of};
+ghost use Rattle.watch_lines.specs.WatchEntries.{watched_seen};
+
+use read_document::{DocError, Key, is_kind, number_field, read_value, required};
+use read_exchange::{ExchangeLine, exchange_in};
+use serde_json::Value;
+use std::alloc::Global;
+
+/// The greatest number of bytes of a line.
+const MAX_LINE: usize = 1_048_576;
+
+/// A line behind the header of a log that is watched.
+#[derive(Drop)]
+pub enum WatchLine {
+    /// As in a log whose records repeat.
+    Exchange(ExchangeLine),
+    /// No operation on a later line begins before this moment.
+    Floor(u64),
+    /// White space alone.
+    Blank,
+}
+
+/// What a line behind the header says, or its first refusal with its first key.
+#[tactic(auto, unfolding(crate::specs::WatchEntries::watch_entry_of))]
+pub fn read_watched(alloc: Global, bytes: &[u8]) -> Result<WatchLine, DocError>
+    ensures said { Gives watched_seen result (watch_entry_of bytes.now) }
+    ensures forwards { IfOk result RunsForwards }
+{
+    if is_blank(bytes) {
+        return Ok(WatchLine::Blank);
+    }
+    let value = read_value(alloc, bytes)?;
+    watched_in(alloc, &value)
+}
+
+fn is_blank(bytes: &[u8]) -> bool
+    ensures { result ≡ is_blank bytes.now }
+{
+    bytes.len() <= MAX_LINE && is_space(bytes)
+}
+
+fn is_space(bytes: &[u8]) -> bool
+    ensures { result ≡ list_all is_ascii_whitespace bytes.now }
+{
+    bytes.iter().all(|byte| byte.is_ascii_whitespace())
+}
+
+#[tactic(auto, unfolding(crate::specs::WatchEntries::watch_entry_in))]
+fn watched_in(alloc: Global, value: &Value) -> Result<WatchLine, DocError>
+    ensures { Gives watched_seen result (watch_entry_in (view value.now)) }
+{
+    if is_kind(value, "floor") {
+        let at = floor_in(value)?;
+        Ok(WatchLine::Floor(at))
+    } else {
+        let line = exchange_in(alloc, value)?;
+        Ok(WatchLine::Exchange(line))
+    }
+}
+
+/// The moment of a floor.
+#[tactic(auto, unfolding(crate::specs::WatchEntries::floor_in))]
+fn floor_in(value: &Value) -> Result<u64, DocError>
+    ensures { Gives (λ n. n) result (floor_in (view value.now)) }
+{
+    required(value, &[Key::Begin])?;
+    number_field(value, Key::Begin)
+}

@@ -1,0 +1,452 @@
+//! A watcher of a log, which reads its lines behind the header.
+ghost use Rattle.std.specs.Prelude.{◌≡◌, ◌+◌, ◌<◌, ◌≤◌, ◌++◌, ◌∷◌, [], List, Result, Ok, Option, None, Some};
+ghost use Rattle.std.specs.Prelude.{IfOk, IfSome, OnOk, option_map, string_bytes};
+ghost use Rattle.object_core.specs.declared.operation.Operation.{Operation};
+ghost use Rattle.object_watch.specs.Remainders.{AreAhead};
+ghost use Rattle.object_watch.specs.Watches.{IsWatchOf};
+ghost use Rattle.read_document.specs.Refusals.{Gives};
+ghost use Rattle.read_document.specs.declared.refusal.DocError.{DocError};
+ghost use Rattle.read_exchange.specs.Exchanges.{done, keyed_seen, operation, refused};
+ghost use Rattle.watch_lines.specs.Lined.{lined_after, lined_op};
+ghost use Rattle.watch_lines.specs.Replies.{TellsIf};
+ghost use Rattle.watch_lines.specs.Seen.{below, has_key, HasOperation, higher, key_with, moment_of, opened_with};
+ghost use Rattle.watch_lines.specs.Seen.{refusal_at, LinesSeen, with_line};
+ghost use Rattle.watch_lines.specs.Steps.{EndsAs, IsLastAnswer, opened};
+ghost use Rattle.watch_lines.specs.WatchEntries.{floor, IsForward, RunsForwards, said, watch_entry_of, watched_seen};
+ghost use Rattle.watch_lines.specs.WatchEntries.{WatchEntry};
+ghost use Rattle.watch_lines.specs.declared.lined.Lined.{Lined};
+ghost use Rattle.watch_lines.specs.Watchers.{IsRisenBefore, Knows, KnowsIf, RisesNow, TakesEntry, TakesLine};
+ghost use Rattle.watch_lines.specs.Watchers.{TakesOperation};
+
+use crate::line::{WatchLine, read_watched};
+use crate::lined::{Lined, LinedRegister};
+use crate::told::{Counts, Floor, Told, WatchFault};
+use exchanges_log::number_op;
+use lines_log::{refused_at, same_key};
+use object_core::Operation;
+use object_registers::{Exchange, Exchanging};
+use object_watch::{Ended, Risen, Watch, WatchError, finish, open_watch, rise, take};
+use program_runs::Fault;
+use read_document::{DocError, Key};
+use read_exchange::{ExchangeLine, ExchangeOp, read_exchange_header};
+use read_line::Numbering;
+use std::alloc::{AllocError, Global};
+
+/// The line of the header.
+const HEADER: usize = 1;
+
+/// No memory, or more lines than there are numbers.
+const NO_MEMORY: WatchFault = WatchFault::Refused(Fault::NoMemory);
+
+/// What is known of a log by its lines so far.
+#[derive(Drop)]
+pub struct Watcher {
+    /// How many lines were read, the header among them.
+    lines: usize,
+    numbering: Numbering,
+    watch: Watch<LinedRegister, Lined>,
+    /// The key of each operation, once there is one.
+    key: Option<Option<String>>,
+    /// The highest floor.
+    high: Option<Floor>,
+    counts: Counts,
+    /// The line of the end, if it was read.
+    ended: Option<usize>,
+}
+
+/// What a line comes to.
+#[derive(Drop)]
+pub enum Step {
+    GoesOn(Watcher),
+    Stops(Result<Told, WatchFault>),
+}
+
+impl Watcher {
+    /// Behind a header with this opening.
+    fn new(alloc: Global, opening: String) -> Result<Watcher, AllocError>
+        ensures { IfOk result (Knows (opened_with (string_bytes opening))) }
+    {
+        let register = Exchanging { held: 0 };
+        let watch = open_watch(alloc, LinedRegister { register })?;
+        let numbering = Numbering::new(alloc, opening)?;
+        Ok(Watcher {
+            lines: HEADER,
+            numbering,
+            watch,
+            key: None,
+            high: None,
+            counts: Counts::none(),
+            ended: None,
+        })
+    }
+
+    /// What the next line comes to.
+    fn step(self, alloc: Global, budget: usize, bytes: &[u8]) -> Step
+        requires { (s : LinesSeen) × Knows s self }
+        ensures { (s : LinesSeen) → Knows s self → TakesEntry s (watch_entry_of bytes.now) result }
+    {
+        let Some(line) = self.lines.checked_add(1) else {
+            return Step::Stops(Err(NO_MEMORY));
+        };
+        let read = read_watched(alloc, bytes);
+        match self.ended {
+            Some(end) => self.behind_end(line, end, read),
+            None => match read {
+                Ok(read) => self.enter(alloc, budget, line, read),
+                Err(why) => Step::Stops(Err(refusal_at(line, why))),
+            },
+        }
+    }
+
+    /// What a line behind the end comes to.
+    fn behind_end(self, line: usize, end: usize, read: Result<WatchLine, DocError>) -> Step
+        ensures { (s : LinesSeen) (entry : Result WatchEntry DocError) → Knows s self → s.ended ≡ Some end →
+            line ≡ s.lines + 1 → Gives watched_seen read entry → TakesEntry s entry result }
+    {
+        match read {
+            Ok(WatchLine::Blank) => Step::GoesOn(self.at_line(line)),
+            Err(DocError::NoMemory) => Step::Stops(Err(NO_MEMORY)),
+            Ok(WatchLine::Exchange(_)) | Ok(WatchLine::Floor(_)) | Err(_) => {
+                Step::Stops(Err(refusal_at(end, DocError::Shape(Key::Kind))))
+            }
+        }
+    }
+
+    /// One line more, of which nothing is known.
+    fn at_line(self, line: usize) -> Watcher
+        ensures { (s : LinesSeen) → Knows s self → line ≡ s.lines + 1 → Knows (with_line s) result }
+    {
+        let mut watcher = self;
+        watcher.lines = line;
+        watcher
+    }
+
+    /// What a line comes to that says this, before the end.
+    fn enter(self, alloc: Global, budget: usize, line: usize, read: WatchLine) -> Step
+        requires known { (s : LinesSeen) × Knows s self }
+        requires forwards { RunsForwards read }
+        ensures { (s : LinesSeen) → Knows s self → s.ended ≡ None → line ≡ s.lines + 1 →
+            TakesEntry s (Ok (watched_seen read)) result }
+    {
+        match read {
+            WatchLine::Blank => Step::GoesOn(self.at_line(line)),
+            WatchLine::Floor(at) => self.rise_to(alloc, budget, line, at),
+            WatchLine::Exchange(ExchangeLine::Operation(op)) => self.take(alloc, line, op),
+            WatchLine::Exchange(ExchangeLine::Refused(key)) => self.refuse(line, &key),
+            WatchLine::Exchange(ExchangeLine::Done(ops)) => self.end_at(line, ops),
+        }
+    }
+
+    /// A refused write: the log has no limit.
+    fn refuse(self, line: usize, key: &Option<String>) -> Step
+        ensures { (s : LinesSeen) → Knows s self → s.ended ≡ None → line ≡ s.lines + 1 →
+            TakesEntry s (Ok (said (refused (option_map string_bytes key.now)))) result }
+    {
+        let why = if has_key(&self.key, key) {
+            DocError::Missing(Key::Limit)
+        } else {
+            DocError::Law(Key::Key)
+        };
+        Step::Stops(Err(refusal_at(line, why)))
+    }
+
+    /// The end, which says how many operations there are.
+    fn end_at(self, line: usize, ops: usize) -> Step
+        ensures { (s : LinesSeen) → Knows s self → s.ended ≡ None → line ≡ s.lines + 1 →
+            TakesEntry s (Ok (said (done ops))) result }
+    {
+        if ops != self.counts.ops {
+            return Step::Stops(Err(refusal_at(line, DocError::Law(Key::Ops))));
+        }
+        let mut watcher = self;
+        watcher.lines = line;
+        watcher.ended = Some(line);
+        Step::GoesOn(watcher)
+    }
+
+    /// An operation.
+    fn take(self, alloc: Global, line: usize, op: ExchangeOp) -> Step
+        requires known { (s : LinesSeen) × Knows s self }
+        requires forward { IsForward op }
+        ensures { (s : LinesSeen) → Knows s self → s.ended ≡ None → line ≡ s.lines + 1 →
+            TakesEntry s (Ok (said (operation (keyed_seen op)))) result }
+    {
+        if !has_key(&self.key, &op.key) {
+            return Step::Stops(Err(refusal_at(line, DocError::Law(Key::Key))));
+        }
+        match below(self.high, line, op.begin) {
+            Some(fault) => Step::Stops(Err(fault)),
+            None => self.put(alloc, line, op),
+        }
+    }
+
+    /// An operation of this key that isn't below the floor.
+    fn put(self, alloc: Global, line: usize, op: ExchangeOp) -> Step
+        requires known { (s : LinesSeen) × Knows s self }
+        requires forward { IsForward op }
+        requires above { self.watch.moment ≤ op.begin }
+        ensures { (s : LinesSeen) → Knows s self → line ≡ s.lines + 1 →
+            TakesOperation s (keyed_seen op) result }
+    {
+        let mut watcher = self;
+        match watcher.push(alloc, line, op) {
+            Ok(()) => Step::GoesOn(watcher),
+            Err(_) => Step::Stops(Err(NO_MEMORY)),
+        }
+    }
+
+    fn push(&mut self, alloc: Global, line: usize, op: ExchangeOp) -> Result<(), AllocError>
+        requires known { (s : LinesSeen) × Knows s self.old }
+        requires forward { IsForward op }
+        requires above { self.old.watch.moment ≤ op.begin }
+        ensures { OnOk result ((s : LinesSeen) → Knows s self.old → line ≡ s.lines + 1 →
+            (t : LinesSeen) × HasOperation s (keyed_seen op) t × Knows t self.new) }
+    {
+        keep_key(alloc, &mut self.key, &op.key)?;
+        let next = number_op(&mut self.numbering, op)?;
+        self.counts = self.counts.with(&next)?;
+        take_lined(&mut self.watch, next, line)?;
+        self.lines = line;
+        Ok(())
+    }
+
+    /// A floor.
+    fn rise_to(self, alloc: Global, budget: usize, line: usize, at: u64) -> Step
+        requires { (s : LinesSeen) × Knows s self }
+        ensures { (s : LinesSeen) → Knows s self → s.ended ≡ None → line ≡ s.lines + 1 →
+            TakesEntry s (Ok (floor at)) result }
+    {
+        let Some(floors) = self.counts.floors.checked_add(1) else {
+            return Step::Stops(Err(NO_MEMORY));
+        };
+        let mut watcher = self;
+        watcher.lines = line;
+        watcher.counts.floors = floors;
+        let high = higher(watcher.high, at, line);
+        if moment_of(high) == moment_of(watcher.high) {
+            watcher.high = high;
+            return Step::GoesOn(watcher);
+        }
+        watcher.rise(alloc, budget, high)
+    }
+
+    /// The floor rises to this one.
+    fn rise(self, alloc: Global, budget: usize, high: Option<Floor>) -> Step
+        requires known { (s : LinesSeen) × Knows s self }
+        requires later { self.watch.moment < moment_of high }
+        ensures { (s : LinesSeen) → Knows s self → RisesNow s high result }
+    {
+        let line = self.lines;
+        let Watcher {
+            lines,
+            numbering,
+            watch,
+            key,
+            high: _,
+            counts,
+            ended,
+        } = self;
+        match rise_before(alloc, watch, moment_of(high), budget) {
+            Ok(Risen::Open(watch)) => Step::GoesOn(Watcher {
+                lines,
+                numbering,
+                watch,
+                key,
+                high,
+                counts,
+                ended,
+            }),
+            Ok(Risen::Lost { at, op }) => Step::Stops(Ok(Told::Lost {
+                at,
+                line: op.what.line,
+            })),
+            Ok(Risen::TooMany { at: _ }) => {
+                Step::Stops(Err(WatchFault::Refused(Fault::Undecided { line })))
+            }
+            Err(_) => Step::Stops(Err(NO_MEMORY)),
+        }
+    }
+
+    /// What is told where no line follows.
+    fn end(self, alloc: Global, budget: usize) -> Result<Told, WatchFault>
+        requires { (s : LinesSeen) × Knows s self }
+        ensures { (s : LinesSeen) → Knows s self → TellsIf (EndsAs s) result }
+    {
+        let Watcher {
+            lines,
+            watch,
+            counts,
+            ended,
+            ..
+        } = self;
+        match finish(alloc, watch, budget) {
+            Ok(Ended::Lawful) => Ok(Told::Lawful {
+                counts,
+                ended: ended.is_some(),
+            }),
+            Ok(Ended::Lost { at, op }) => Ok(Told::Lost {
+                at,
+                line: op.what.line,
+            }),
+            Ok(Ended::TooMany { at: _ }) => {
+                Err(WatchFault::Refused(Fault::Undecided { line: lines }))
+            }
+            Err(_) => Err(NO_MEMORY),
+        }
+    }
+}
+
+/// What the next line comes to, behind those that were read, if any were: the first one is the header.
+pub fn watch_line(alloc: Global, budget: usize, read: Option<Watcher>, bytes: &[u8]) -> Step
+    requires { (seen : Option LinesSeen) × KnowsIf seen read }
+    ensures { (seen : Option LinesSeen) → KnowsIf seen read → TakesLine seen bytes.now result }
+{
+    match read {
+        Some(watcher) => watcher.step(alloc, budget, bytes),
+        None => open(alloc, bytes),
+    }
+}
+
+/// The header.
+fn open(alloc: Global, bytes: &[u8]) -> Step
+    ensures { TakesLine None bytes.now result }
+{
+    let opening = match read_exchange_header(alloc, bytes) {
+        Ok(opening) => opening,
+        Err(why) => return Step::Stops(Err(refusal_at(HEADER, why))),
+    };
+    match Watcher::new(alloc, opening) {
+        Ok(watcher) => Step::GoesOn(watcher),
+        Err(_) => Step::Stops(Err(NO_MEMORY)),
+    }
+}
+
+/// What is told where no line follows those that were read, if any were.
+pub fn watch_end(alloc: Global, budget: usize, read: Option<Watcher>) -> Result<Told, WatchFault>
+    requires { (seen : Option LinesSeen) × KnowsIf seen read }
+    ensures { (seen : Option LinesSeen) → KnowsIf seen read → TellsIf (IsLastAnswer seen) result }
+{
+    match read {
+        Some(watcher) => watcher.end(alloc, budget),
+        None => Err(refusal_at(HEADER, DocError::NotJson)),
+    }
+}
+
+/// Takes an operation, which stands on this line.
+fn take_lined(
+    watch: &mut Watch<LinedRegister, Lined>,
+    op: Operation<Exchange>,
+    line: usize,
+) -> Result<(), AllocError>
+    requires forward { IfSome op.ends (λ end. op.starts ≤ end) }
+    requires above { watch.old.moment ≤ op.starts }
+    ensures moment { OnOk result (watch.new.moment ≡ watch.old.moment) }
+    ensures taken { OnOk result ((log : List (Operation Lined)) → IsWatchOf lined_after opened log watch.old →
+        IsWatchOf lined_after opened (log ++ lined_op op line ∷ []) watch.new) }
+{
+    let lined = Operation {
+        starts: op.starts,
+        ends: op.ends,
+        maybe: op.maybe,
+        what: Lined {
+            what: op.what,
+            line,
+        },
+    };
+    match take(watch, lined) {
+        Ok(()) => Ok(()),
+        Err(WatchError::NoMemory) => Err(AllocError),
+        Err(WatchError::Backwards) | Err(WatchError::Late) => unreachable!(),
+    }
+}
+
+/// Nothing more begins before this moment, which is later than the watch's.
+fn rise_before(
+    alloc: Global,
+    watch: Watch<LinedRegister, Lined>,
+    moment: u64,
+    budget: usize,
+) -> Result<Risen<LinedRegister, Lined>, AllocError>
+    requires ahead { AreAhead 0 watch.held.items }
+    requires later { watch.moment < moment }
+    ensures { IfOk result (λ risen. (log : List (Operation Lined)) → IsWatchOf lined_after opened log watch →
+        IsRisenBefore log watch.moment moment risen) }
+{
+    rise(alloc, watch, moment - 1, budget)
+}
+
+/// How a refusal of this line is told.
+fn refusal_at(line: usize, why: DocError) -> WatchFault
+    ensures { result ≡ refusal_at line why }
+{
+    WatchFault::Refused(refused_at(line, why))
+}
+
+/// Whether an operation may have this key.
+fn has_key(all: &Option<Option<String>>, key: &Option<String>) -> bool
+    ensures { result ≡ has_key (option_map (option_map string_bytes) all.now) (option_map string_bytes key.now) }
+{
+    match all {
+        Some(all) => same_key(all, key),
+        None => true,
+    }
+}
+
+/// The key of all operations is that of the first.
+fn keep_key(
+    alloc: Global,
+    all: &mut Option<Option<String>>,
+    key: &Option<String>,
+) -> Result<(), AllocError>
+    ensures { OnOk result (option_map (option_map string_bytes) all.new
+        ≡ key_with (option_map (option_map string_bytes) all.old) (option_map string_bytes key.now)) }
+{
+    if all.is_none() {
+        *all = Some(copy_of(alloc, key)?);
+    }
+    Ok(())
+}
+
+fn copy_of(alloc: Global, key: &Option<String>) -> Result<Option<String>, AllocError>
+    ensures { IfOk result (λ copy. option_map string_bytes copy ≡ option_map string_bytes key.now) }
+{
+    match key {
+        Some(key) => {
+            let copy = String::from_str(alloc, key.as_str())?;
+            Ok(Some(copy))
+        }
+        None => Ok(None),
+    }
+}
+
+/// The fault of an operation on this line that begins below the highest floor.
+fn below(high: Option<Floor>, line: usize, begins: u64) -> Option<WatchFault>
+    ensures { result ≡ below high line begins }
+{
+    match high {
+        Some(high) if begins < high.at => Some(WatchFault::Below {
+            line,
+            floor: high.line,
+        }),
+        _ => None,
+    }
+}
+
+fn higher(high: Option<Floor>, at: u64, line: usize) -> Option<Floor>
+    ensures { result ≡ higher high at line }
+{
+    match high {
+        Some(high) if at <= high.at => Some(high),
+        _ => Some(Floor { at, line }),
+    }
+}
+
+/// No operation on a later line begins before this moment.
+fn moment_of(high: Option<Floor>) -> u64
+    ensures { result ≡ moment_of high }
+{
+    match high {
+        Some(high) => high.at,
+        None => 0,
+    }
+}

@@ -1,0 +1,117 @@
+"""Compares `fsr watch` with the plain reference (watches.py) on random logs with floors.
+
+    compare_watches.py [--logs N] [--seed S] PROGRAM WORD ..
+
+The log is on standard input of the program with these words. Some of the logs are judged with a budget as well, and then may have no
+answer. The last lines are how many logs gave the same bytes and status, by kind of ending, and how many there were, by their verdict. The
+first difference ends the run with status 1, with the log kept in the file that is named. None at all is status 1.
+"""
+
+import argparse
+import collections
+import json
+import random
+import re
+import subprocess
+import sys
+
+import compare
+import make_exchanges
+import watches
+
+FEWEST = (0, 0, 1, 2)
+
+
+def with_floors(random, rows):
+    """The rows with floors among them, which are mostly as high as what comes behind them lets them be."""
+    made, begins = [], [row["begin"] for row in rows if isinstance(row.get("begin"), int)]
+    for place, row in enumerate(rows):
+        if place and random.random() < 0.4:
+            ahead = [it["begin"] for it in rows[place:] if isinstance(it.get("begin"), int) and it.get("kind") != "floor"]
+            most = min(ahead, default=max(begins, default=0) + random.randrange(9))
+            at = most if random.random() < 0.6 else random.randint(0, max(most, 0))
+            made.append({"kind": "floor", "begin": at + (random.random() < 0.03)})
+        made.append(row)
+    return made
+
+
+def spoil_floor(random, rows):
+    floors = [row for row in rows if row.get("kind") == "floor"]
+    if floors:
+        it, how = random.choice(floors), random.randrange(3)
+        if how == 0:
+            del it["begin"]
+        else:
+            it["begin"] = random.choice(make_exchanges.WRONG)
+
+
+def make_log(random):
+    rows = make_exchanges.good_log(random)
+    spoilt = random.random()
+    if spoilt < 0.15:
+        make_exchanges.spoil(random, rows)
+    last = [rows.pop()] if rows[-1].get("kind") == "done" else []
+    rows = with_floors(random, rows) + last
+    if spoilt > 0.96:
+        spoil_floor(random, rows)
+    if random.random() < 0.2:
+        rows[0].pop("repeats", None)
+    data = make_exchanges.text_of(random, rows)
+    if data.endswith(b"\x0c\n") and random.random() < 0.9:
+        data = data[:-2]
+    if random.random() < 0.1:
+        at = random.choice([place for place, byte in enumerate(data) if byte == 10] or [0])
+        data = data[:at] + random.choice((b"\n", b"\n \t\r", b"\n\n\x0c")) + data[at:]
+    return data
+
+
+def ended(command, data):
+    done = subprocess.run(command, input=data, capture_output=True, check=False)
+    return done.stdout.decode(), done.stderr.decode(), done.returncode
+
+
+def agree(found, wanted):
+    return found[0] in wanted[0] and found[1:] == wanted[1:]
+
+
+def gives_up(found):
+    return found[0] == "" and found[2] == 7 and re.fullmatch(r"fsr: line \d+: too many configurations\n", found[1]) is not None
+
+
+def ending_of(found):
+    if found[2] == 3:
+        return re.sub(r"\d+", "N", found[1].strip().removeprefix("fsr: "))
+    return re.sub(r" \d+$", "", found[0].split("\n", maxsplit=1)[0])
+
+
+def tell(number, seed, data, found, wanted):
+    print(f"log {number} of seed {seed} < {compare.keep(data)}", "the program:", *found, "the reference:", *wanted, sep="\n")
+    return 1
+
+
+def main():
+    parser = argparse.ArgumentParser()
+    parser.add_argument("--logs", type=int, default=2000)
+    parser.add_argument("--seed", type=int, default=1)
+    parser.add_argument("command", nargs="+")
+    given = parser.parse_args()
+    source, endings, kinds = random.Random(given.seed), collections.Counter(), collections.Counter()
+    for number in range(given.logs):
+        data = make_log(source)
+        wanted, found = watches.answers(data), ended(given.command, data)
+        if not agree(found, wanted):
+            return tell(number, given.seed, data, found, wanted)
+        endings[ending_of(found)] += 1
+        kinds[("lawful", "lost", "", "refused")[wanted[2]]] += 1
+        if source.random() < 0.1:
+            found = ended([*given.command, "--budget", str(source.randint(1, 4))], data)
+            if not gives_up(found) and not agree(found, wanted):
+                return tell(number, given.seed, data, found, wanted)
+            kinds["given up"] += gives_up(found)
+    by_kind = "".join(f", {count} {kind}" for kind, count in sorted(kinds.items()) if count)
+    compare.tell_endings(endings, f"{given.logs} logs of seed {given.seed}{by_kind}")
+    return 0 if given.logs else 1
+
+
+if __name__ == "__main__":
+    sys.exit(main())
