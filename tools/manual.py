@@ -95,7 +95,7 @@ def page_of_fsr(fsr):
         synopsis.append(usage)
         middle += [f".SS {roff(usage)}", f"{roff(says)}.", *tagged([*its.get("arguments", []), *its.get("options", [])])]
     middle += [".SH OPTIONS", *tagged(lists["options"])]
-    return page("fsr", "checks and finds orders of histories, plays schedules, runs races", synopsis, middle)
+    return page("fsr", "checks and finds orders of histories, plays schedules, runs races, watches logs", synopsis, middle)
 
 
 def page_of_picture(picture):

@@ -2,11 +2,12 @@
 _fsr() {
     local words word=${COMP_WORDS[COMP_CWORD]}
     case $COMP_CWORD:${COMP_WORDS[1]} in
-    1:*) words='check order play race help -h --help -V --version' ;;
+    1:*) words='check order play race watch help -h --help -V --version' ;;
     *:check) words='-h --help' ;;
     *:order) words='--order --small --strict --budget -h --help' ;;
     *:play) words='-h --help' ;;
     *:race) words='-h --help' ;;
+    *:watch) words='--budget -h --help' ;;
     esac
     COMPREPLY=($(compgen -W "$words" -- "$word"))
     [ "$COMP_CWORD" = 1 ] || [ "${word#-}" != "$word" ] || COMPREPLY+=($(compgen -f -- "$word"))
