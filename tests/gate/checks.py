@@ -7,8 +7,8 @@
 
 COUNTED has lines `SCRIPT NUMBER`. The gate's number is that of the crates but the library's, which its build proves, and that of
 tests/gate/wrong_bodies.py that of the wrong bodies, as tests/docs/numbers.py counts them. The table's numbers stand for a machine with
-the tools that are named above it. On one that has others the scripts that use these aren't compared; a script without any check fails
-everywhere. --top FOLDER takes another tree.
+the tools that are named above it. On one that has others the scripts that use these aren't compared. A script without any check fails,
+unless it is one that checks nothing without a tool that isn't there. --top FOLDER takes another tree.
 """
 
 import argparse
@@ -40,7 +40,7 @@ TOOLS = {
 # What a tool is there with, or a script does without it.
 WITH = {"jackd": "/usr/include/jack/jack.h"}
 # The scripts that check nothing where one of their tools isn't there.
-OPTIONAL = {"tests/arm.sh"}
+OPTIONAL = {"tests/arm.sh", "tests/docs/stepper.sh"}
 # The scripts that have no checks, and those that are run by hand alone.
 HELPERS = {"tests/gate/outcomes.sh", "build/spent.sh", "build/machine.sh", "build/build.sh", "build/library.sh", "tests/programs/refused.sh"}
 # Those that another script reads.
