@@ -10,6 +10,7 @@ use Rattle.object_sweep.specs.declared.configuration.Configuration.{Configuratio
 use Rattle.object_sweep.specs.inner.Cuts.{EndsAt, IsLogCut}
 use Rattle.object_sweep.specs.inner.Steps.{AnyCanFinish, AreExplored, AreSound, AreStarted, AreUnderWay, IsAdded, IsClosed}
 use Rattle.object_sweep.specs.inner.Steps.{IsCopyAt, IsExplored, IsGrown, IsHandled, IsIdle, IsLeftOut, IsMadeOf, IsPassed, IsPureNext}
+use Rattle.object_sweep.specs.inner.Steps.{NeedNotBeTried}
 use Rattle.object_sweep.specs.inner.Steps.{IsPut, IsPutIn, IsSorted, IsSureAndPure, IsTried, IsVisited, made_by}
 use Rattle.object_sweep.specs.inner.Steps.IsHandled.{Tries, Places as PlacesPure}
 use Rattle.object_sweep.specs.inner.Steps.{IsPlacedFor, may_be_left_out, maybe_of, MayStandFor, StandsInFor, step_from}
@@ -365,11 +366,13 @@ module _ {S W : Type 0} (sure : ℕ → Bool) (after : S → W → Option S) (lo
             inr (subst P one (r, stands, f.2 t (stepped_for under_way s placed r q t stands step_q)))
       ]
 
-  pub explored_idle : (under_way : List ℕ) (ending : ℕ) (s : S) (placed : List ℕ) (n q : ℕ) → slice_get under_way n ≡ Some q →
-      IsIdle after (slice_get log q) → (waiting kept waiting' kept' : List (Configuration S)) →
+  explored_as : (under_way : List ℕ) (ending : ℕ) (s : S) (placed : List ℕ) (n q : ℕ) → slice_get under_way n ≡ Some q →
+      (waiting kept waiting' kept' : List (Configuration S)) →
       IsExplored sure after log under_way ending s placed n waiting kept waiting' kept' →
+      ((t : S) → step_from after log s placed q ≡ Some t →
+      IsIdle after (slice_get log q) ⊎ IsPlacedFor sure after log under_way ending placed q t waiting' kept') →
       IsExplored sure after log under_way ending s placed (n + 1) waiting kept waiting' kept'
-  explored_idle under_way ending s placed n q at idle waiting kept waiting' kept' yet = record {
+  explored_as under_way ending s placed n q at waiting kept waiting' kept' yet one_more = record {
     grown_waiting = yet.grown_waiting;
     grown_kept = yet.grown_kept;
     left_out = yet.left_out;
@@ -384,8 +387,70 @@ module _ {S W : Type 0} (sure : ℕ → Bool) (after : S → W → Option S) (lo
         | inr le ↦
             let same : j ≡ n = omega arith in
             let one : q ≡ r = same_Some q r (sym at ∙ (ap (slice_get under_way) (sym same) ∙ there)) in
-            let P : ℕ → Type 0 = λ z. IsIdle after (slice_get log z) in inl (subst P one idle)
+            let P : ℕ → Type 0 = λ z.
+            IsIdle after (slice_get log z) ⊎ IsPlacedFor sure after log under_way ending placed z t waiting' kept' in
+            subst P one (one_more t (ap (step_from after log s placed) one ∙ e))
       ]
+
+  -- each of these is under way, isn't placed, and what it leads to is held
+  abbrev pub AreHeldFor : List ℕ → ℕ → S → List ℕ → List ℕ → List (Configuration S) → List (Configuration S) → Type 0
+  AreHeldFor under_way ending s placed tried waiting kept = (i r : ℕ) → slice_get tried i ≡ Some r →
+      (is_in r under_way ≡ true) × (is_in r placed ≡ false)
+      × ((t : S) → step_from after log s placed r ≡ Some t → IsPutIn sure (nat_eq r ending) r t placed waiting kept)
+
+  pub held_for_none : (under_way : List ℕ) (ending : ℕ) (s : S) (placed tried : List ℕ) (waiting kept : List (Configuration S)) →
+      tried ≡ [] → AreHeldFor under_way ending s placed tried waiting kept
+  held_for_none under_way ending s placed tried waiting kept none i r at =
+      let e : None ≡ Some r = sym (ap (λ z. slice_get z i) none) ∙ at in cc
+
+  pub held_for_more : (under_way : List ℕ) (ending : ℕ) (s : S) (placed : List ℕ) (n q r : ℕ) → slice_get under_way n ≡ Some q →
+      is_in q placed ≡ false → StandsInFor after log under_way placed r q → (tried : List ℕ)
+      (waiting' kept' waiting'' kept'' : List (Configuration S)) → AreHeldFor under_way ending s placed tried waiting' kept' →
+      IsTried sure (step_from after log s placed r) ending placed r waiting' kept' waiting'' kept'' →
+      AreHeldFor under_way ending s placed (tried ++ r ∷ []) waiting'' kept''
+  held_for_more under_way ending s placed n q r at free stands tried waiting' kept' waiting'' kept'' yet h i p there =
+      elim (get_push tried r i p there) [
+        | inl old ↦
+            let y = yet i p old in
+            (y.0, y.1, λ t e. put_in_grown sure (nat_eq p ending) p t placed waiting' kept' waiting'' kept'' f.0 f.1 (y.2 t e))
+        | inr new ↦
+            let P : ℕ → Type 0 = λ z. (is_in z under_way ≡ true) × (is_in z placed ≡ false)
+            × ((t : S) → step_from after log s placed z ≡ Some t → IsPutIn sure (nat_eq z ending) z t placed waiting'' kept'') in
+            subst P new.1 (under, open_yet stands, f.2)
+      ]
+    where
+      f : IsGrown waiting' waiting'' × IsGrown kept' kept'' ×
+          ((t : S) → step_from after log s placed r ≡ Some t → IsPutIn sure (nat_eq r ending) r t placed waiting'' kept'')
+      f = tried_facts sure (step_from after log s placed r) ending placed r waiting' kept' waiting'' kept'' h
+
+      there_is : (m : ℕ) × (slice_get under_way m ≡ Some r)
+      there_is = place_for under_way placed n r q at stands
+
+      under : is_in r under_way ≡ true
+      under = is_in_at under_way there_is.0 r there_is.1
+
+      open_yet : StandsInFor after log under_way placed r q → is_in r placed ≡ false
+      open_yet (inl same) = ap (λ z. is_in z placed) same ∙ free
+      open_yet (inr for) = for.1
+
+  pub explored_needless : (under_way : List ℕ) (ending : ℕ) (s : S) (placed : List ℕ) (n q : ℕ) (tried : List ℕ) →
+      slice_get under_way n ≡ Some q → NeedNotBeTried after log placed tried q → (waiting kept waiting' kept' : List (Configuration S)) →
+      AreHeldFor under_way ending s placed tried waiting' kept' →
+      IsExplored sure after log under_way ending s placed n waiting kept waiting' kept' →
+      IsExplored sure after log under_way ending s placed (n + 1) waiting kept waiting' kept'
+  explored_needless under_way ending s placed n q tried at (inr (inl idle)) waiting kept waiting' kept' held yet =
+      explored_as under_way ending s placed n q at waiting kept waiting' kept' yet (λ t e. inl idle)
+  explored_needless under_way ending s placed n q tried at (inl there) waiting kept waiting' kept' held yet =
+      explored_as under_way ending s placed n q at waiting kept waiting' kept' yet (λ t e.
+      let p = step_parts sure after s log s placed q t e in absurd (both there p.0))
+    where
+      both : is_in q placed ≡ true → is_in q placed ≡ false → ⊥
+      both t f = cc
+  explored_needless under_way ending s placed n q tried at (inr (inr one)) waiting kept waiting' kept' held yet =
+      explored_as under_way ending s placed n q at waiting kept waiting' kept' yet (λ t e.
+      let h = held one.0 one.1 one.2 in
+      let stands : StandsInFor after log under_way placed one.1 q = inr (h.0, h.1, one.3) in
+      inr (one.1, stands, h.2 t (stepped_for under_way s placed one.1 q t stands e)))
 
   handled_grown : (under_way : List ℕ) (ending : ℕ) (s : S) (placed : List ℕ) (waiting kept waiting' kept' : List (Configuration S)) →
       IsGrown waiting waiting' → IsGrown kept kept' → IsHandled sure after log under_way ending s placed waiting kept →
@@ -557,11 +622,11 @@ module _ {S W : Type 0} (after : S → W → Option S) (log : List (Operation W)
   pub passed : (under_way : List ℕ) (ending : ℕ) (configurations first first' waiting kept : List (Configuration S)) →
       AreStarted (sure_at log) after log ending (length configurations) configurations first first' →
       AreExplored (sure_at log) after log under_way ending (length waiting) first first' waiting kept →
-      IsPassed after log under_way ending configurations kept
+      IsPassed true after log under_way ending configurations kept
   passed under_way ending configurations first first' waiting kept started explored = record {
     reached = λ opening ended end next way reached. (explored.sound opening ended end next way (started.sound opening ended end next
         reached)).reached_kept;
-    complete = complete;
+    complete = λ whole. complete;
   }
     where
       complete : (opening : S) (ended : List ℕ) (end : ℕ) → RunForwards log → IsNextEnd log ended ending end →
@@ -599,14 +664,14 @@ module _ {S W : Type 0} (after : S → W → Option S) (log : List (Operation W)
 
   -- in another sequence they are the same
   pub passed_in_order : (under_way : List ℕ) (ending : ℕ) (configurations kept kept' : List (Configuration S)) → IsPermutation kept kept' →
-      IsPassed after log under_way ending configurations kept → IsPassed after log under_way ending configurations kept'
-  passed_in_order under_way ending configurations kept kept' same h = record {
+      (w : Bool) → IsPassed w after log under_way ending configurations kept → IsPassed w after log under_way ending configurations kept'
+  passed_in_order under_way ending configurations kept kept' same w h = record {
     reached = λ opening ended end next way reached i one at.
         let m = moved kept' kept (IsPermutation-sym kept kept' same) i one at in
         h.reached opening ended end next way reached m.0 one m.1;
-    complete = λ opening ended end forwards next way reached cut is ends any.
-        let w = h.complete opening ended end forwards next way reached cut is ends any in
-        let m = moved kept kept' same w.0 w.1 w.2 in (m.0, w.1, m.1, w.3);
+    complete = λ whole opening ended end forwards next way reached cut is ends any.
+        let k = h.complete whole opening ended end forwards next way reached cut is ends any in
+        let m = moved kept kept' same k.0 k.1 k.2 in (m.0, k.1, m.1, k.3);
   }
     where
       moved : (old new : List (Configuration S)) → IsPermutation old new → (i : ℕ) (one : Configuration S) →

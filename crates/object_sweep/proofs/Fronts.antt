@@ -1,8 +1,8 @@
 -- The front behind one more event.
-use Rattle.std.proofs.Common.{◌≡◌, ◌≢◌, ℕ, ◌+◌, ◌<◌, ◌≤◌, Bool, true, false, ◌||◌, not, cond, nat_eq, List, [], ◌∷◌, ◌++◌, length}
-use Rattle.std.proofs.Common.{slice_get, take}
+use Rattle.std.proofs.Common.{◌≡◌, ◌≢◌, ℕ, ◌+◌, ◌<◌, ◌≤◌, Bool, true, false, ◌||◌, ◌&&◌, not, cond, nat_eq, List, [], ◌∷◌, ◌++◌}
+use Rattle.std.proofs.Common.{length, slice_get, take}
 use Rattle.std.proofs.Common.{Option, None, Some, zero, suc, refl, sym, ◌∙◌, ap, subst, add-one, arith, ◌⊎◌, inl, inr}
-use Rattle.std.proofs.lemmas.Bool.{cases_Bool, cases_eq, cases_lt, or_cases, or_parts}
+use Rattle.std.proofs.lemmas.Bool.{and_parts, cases_Bool, cases_eq, cases_lt, or_cases, or_parts}
 use Rattle.std.proofs.lemmas.Option.{same_Some, slice_get_within}
 use Rattle.object_core.specs.declared.operation.Operation.{Operation}
 use Rattle.object_core.specs.Logs.{IsLinearizable}
@@ -11,7 +11,7 @@ use Rattle.object_sweep.specs.declared.event.Event.{Event}
 use Rattle.object_sweep.specs.declared.log_sweep.Verdict.{Verdict}
 use Rattle.object_sweep.specs.declared.log_sweep.Verdict.TheVariants.{Lawful, Unlawful, TooMany}
 use Rattle.object_sweep.specs.inner.Cuts.{EndsAt, IsLogCut, KeepsEnds}
-use Rattle.object_sweep.specs.inner.Ends.{AreAlwaysTooMany, IsEventPassed}
+use Rattle.object_sweep.specs.inner.Ends.{AreAlwaysTooMany, IsEventPassed, IsOn}
 use Rattle.object_sweep.specs.inner.Events.{AreEvents, begins, ends, IsEventAmong, IsEvent, IsOpened, IsFrontBehind, ComesNoLater}
 use Rattle.object_sweep.specs.inner.Steps.{AnyCanFinish, AreUnderWay, IsPassed}
 use Rattle.object_sweep.specs.Reached.{AreReachable, AreTooMany, is_closed, is_in, IsLostAt, IsNextEnd, IsReachable, MayBeLeftOut, without}
@@ -40,7 +40,7 @@ among_cases done e x h = by_place (get_push done e h.0 x h.1)
     by_place (inr f) = inr f.1
 
 -- a front of a list
-taken : {X : Type 0} (xs : List X) (i j : ℕ) (x : X) → slice_get (take i xs) j ≡ Some x → (j < i) × (slice_get xs j ≡ Some x)
+pub taken : {X : Type 0} (xs : List X) (i j : ℕ) (x : X) → slice_get (take i xs) j ≡ Some x → (j < i) × (slice_get xs j ≡ Some x)
 taken [] zero j x e = cc
 taken [] (suc i) j x e = cc
 taken (y ∷ xs) zero j x e = cc
@@ -111,8 +111,18 @@ module _ {S W : Type 0} (after : S → W → Option S) (opening : S) (log : List
   is_event : IsEvent log e
   is_event = are.all.each e (i, here)
 
-  module _ (under_way : List ℕ) (held : List (Configuration S))
-      (front : IsFrontBehind after opening log (take i events) under_way held) where
+  front_as : (whole' : Bool) (under_way' : List ℕ) (held' : List (Configuration S)) {w : Bool} {under_way : List ℕ}
+      {held : List (Configuration S)} → whole' ≡ w → under_way' ≡ under_way → held' ≡ held →
+      IsFrontBehind w after opening log (take (i + 1) events) under_way held →
+      IsFrontBehind whole' after opening log (take (i + 1) events) under_way' held'
+  front_as whole' under_way' held' {w} {under_way} {held} e f k front =
+      let P : Bool → Type 0 = λ z. IsFrontBehind z after opening log (take (i + 1) events) under_way' held' in
+      let Q : List ℕ → Type 0 = λ z. IsFrontBehind w after opening log (take (i + 1) events) z held' in
+      let R : List (Configuration S) → Type 0 = λ z. IsFrontBehind w after opening log (take (i + 1) events) under_way z in
+      subst P (sym e) (subst Q (sym f) (subst R (sym k) front))
+
+  module _ (is_whole : Bool) (under_way : List ℕ) (held : List (Configuration S))
+      (front : IsFrontBehind is_whole after opening log (take i events) under_way held) where
     -- an operation begins
     begins_open : e.ends ≡ false → is_in e.place front.ended ≡ false
     begins_open begins_it = elim (cases_Bool (is_in e.place front.ended)) [
@@ -132,9 +142,9 @@ module _ {S W : Type 0} (after : S → W → Option S) (opening : S) (log : List
           let ended_it : e.ends ≡ true = late.ends moment refl in cc
     ]
 
-    pub front_begins : e.ends ≡ false → IsFrontBehind after opening log (take (i + 1) events) (under_way ++ e.place ∷ []) held
+    pub front_begins : e.ends ≡ false → IsFrontBehind is_whole after opening log (take (i + 1) events) (under_way ++ e.place ∷ []) held
     front_begins begins_it =
-        let P : List Event → Type 0 = λ z. IsFrontBehind after opening log z (under_way ++ e.place ∷ []) held in
+        let P : List Event → Type 0 = λ z. IsFrontBehind is_whole after opening log z (under_way ++ e.place ∷ []) held in
         subst P (sym (take_next events i e here)) (record {
           ended = front.ended;
           have_ended = λ q t. let a = front.have_ended q t in (a.0, among_front (take i events) e (ends a.0 q) a.1);
@@ -232,9 +242,10 @@ module _ {S W : Type 0} (after : S → W → Option S) (opening : S) (log : List
     ]
 
     -- which had ended
-    pub front_again : e.ends ≡ true → is_in e.place under_way ≡ false → IsFrontBehind after opening log (take (i + 1) events) under_way held
+    pub front_again : e.ends ≡ true → is_in e.place under_way ≡ false →
+        IsFrontBehind is_whole after opening log (take (i + 1) events) under_way held
     front_again ends_it h =
-        let P : List Event → Type 0 = λ z. IsFrontBehind after opening log z under_way held in
+        let P : List Event → Type 0 = λ z. IsFrontBehind is_whole after opening log z under_way held in
         subst P (sym (take_next events i e here)) (record {
           ended = front.ended;
           have_ended = λ q t. let a = front.have_ended q t in (a.0, among_front (take i events) e (ends a.0 q) a.1);
@@ -262,11 +273,11 @@ module _ {S W : Type 0} (after : S → W → Option S) (opening : S) (log : List
         ]
 
     -- and which was under way
-    pub front_ends : e.ends ≡ true → is_in e.place under_way ≡ true → (kept : List (Configuration S)) →
-        IsPassed after log under_way e.place held kept → 0 < length kept →
-        IsFrontBehind after opening log (take (i + 1) events) (without e.place under_way) kept
-    front_ends ends_it h kept passed some =
-        let P : List Event → Type 0 = λ z. IsFrontBehind after opening log z (without e.place under_way) kept in
+    pub front_ends : e.ends ≡ true → is_in e.place under_way ≡ true → (w : Bool) (kept : List (Configuration S)) →
+        IsPassed w after log under_way e.place held kept → 0 < length kept →
+        IsFrontBehind (is_whole && w) after opening log (take (i + 1) events) (without e.place under_way) kept
+    front_ends ends_it h w kept passed some =
+        let P : List Event → Type 0 = λ z. IsFrontBehind (is_whole && w) after opening log z (without e.place under_way) kept in
         subst P (sym (take_next events i e here)) (record {
           ended = e.place ∷ front.ended;
           have_ended = have_ended;
@@ -274,8 +285,9 @@ module _ {S W : Type 0} (after : S → W → Option S) (opening : S) (log : List
           have_begun = have_begun;
           all_begun = all_begun;
           reached = passed.reached opening front.ended e.at (next_at ends_it h) (way_at ends_it) front.reached;
-          complete = λ cut is keeps l. passed.complete opening front.ended e.at forwards (next_at ends_it h) (way_at ends_it) front.reached
-              cut is (keeps e.place e.at (it_ended front.ended) ends_then) (front.complete cut is
+          complete = λ all cut is keeps l. passed.complete (and_parts is_whole w all).1 opening front.ended e.at forwards
+              (next_at ends_it h) (way_at ends_it) front.reached
+              cut is (keeps e.place e.at (it_ended front.ended) ends_then) (front.complete (and_parts is_whole w all).0 cut is
               (λ q at t. keeps q at (had_ended front.ended q t)) l);
           some = some;
         })
@@ -324,18 +336,18 @@ module _ {S W : Type 0} (after : S → W → Option S) (opening : S) (log : List
             apart t u = cc
 
     -- nothing is kept
-    none_of : e.ends ≡ true → is_in e.place under_way ≡ true → IsPassed after log under_way e.place held [] →
+    none_of : e.ends ≡ true → is_in e.place under_way ≡ true → is_whole ≡ true → IsPassed true after log under_way e.place held [] →
         (cut : List (Operation W)) → IsLogCut log cut → KeepsEnds log cut (e.place ∷ front.ended) → ¬ IsLinearizable after opening cut
-    none_of ends_it h passed cut is keeps l =
+    none_of ends_it h all passed cut is keeps l =
         let ends_then : EndsAt log e.place e.at = let n = next_at ends_it h in (n.0, n.1, n.2) in
-        let a = passed.complete opening front.ended e.at forwards (next_at ends_it h) (way_at ends_it) front.reached cut is
+        let a = passed.complete refl opening front.ended e.at forwards (next_at ends_it h) (way_at ends_it) front.reached cut is
         (keeps e.place e.at (it_ended front.ended) ends_then)
-        (front.complete cut is (λ q at t. keeps q at (had_ended front.ended q t)) l) in
+        (front.complete all cut is (λ q at t. keeps q at (had_ended front.ended q t)) l) in
         let at : None ≡ Some a.1 = a.2 in cc
 
-    pub none_kept : e.ends ≡ true → is_in e.place under_way ≡ true → IsPassed after log under_way e.place held [] →
+    pub none_kept : e.ends ≡ true → is_in e.place under_way ≡ true → is_whole ≡ true → IsPassed true after log under_way e.place held [] →
         ¬ IsLinearizable after opening log
-    none_kept ends_it h passed l = none_of ends_it h passed log (whole log) (λ q at t ends. ends) l
+    none_kept ends_it h all passed l = none_of ends_it h all passed log (whole log) (λ q at t ends. ends) l
 
     -- what ended comes before what ends later
     first_ended : e.ends ≡ true → AreFirst log (e.place ∷ front.ended)
@@ -373,10 +385,10 @@ module _ {S W : Type 0} (after : S → W → Option S) (opening : S) (log : List
         ]
 
     -- so nothing is reached behind the end
-    none_reached : e.ends ≡ true → is_in e.place under_way ≡ true → IsPassed after log under_way e.place held [] →
+    none_reached : e.ends ≡ true → is_in e.place under_way ≡ true → is_whole ≡ true → IsPassed true after log under_way e.place held [] →
         (s : S) (placed : List ℕ) → ¬ IsReachable after opening log (e.place ∷ front.ended) s placed
-    none_reached ends_it h passed s placed r =
-        none_of ends_it h passed cut is (keeps_ends log (e.place ∷ front.ended)) lawful
+    none_reached ends_it h all passed s placed r =
+        none_of ends_it h all passed cut is (keeps_ends log (e.place ∷ front.ended)) lawful
       where
         cut : List (Operation W)
         cut = so_far log (e.place ∷ front.ended)
@@ -412,14 +424,14 @@ module _ {S W : Type 0} (after : S → W → Option S) (opening : S) (log : List
         lawful = (opened after opening cut).0 (back after cut opening there (last_end after cut
             (is_closed (e.place ∷ front.ended) (without e.place b.1)) b.0 all_over))
 
-    pub lost_there : e.ends ≡ true → is_in e.place under_way ≡ true → IsPassed after log under_way e.place held [] →
+    pub lost_there : e.ends ≡ true → is_in e.place under_way ≡ true → is_whole ≡ true → IsPassed true after log under_way e.place held [] →
         IsLostAt after opening log e.place
-    lost_there ends_it h passed = record {
+    lost_there ends_it h all passed = record {
       ended = front.ended;
       end = e.at;
       next = next_at ends_it h;
       before = by_held held refl;
-      behind = none_reached ends_it h passed;
+      behind = none_reached ends_it h all passed;
     }
       where
         by_held : (list : List (Configuration S)) → held ≡ list →
@@ -436,40 +448,48 @@ module _ {S W : Type 0} (after : S → W → Option S) (opening : S) (log : List
     many_kept ends_it h budget many = many opening front.ended e.at (next_at ends_it h) (way_at ends_it) front.reached
 
     -- one more event, whichever it is
+    pub front_on : (b : Bool) → e.ends ≡ b → (whole' : Bool) (under_way' : List ℕ) (held' : List (Configuration S)) →
+        IsOn b after log e.place is_whole under_way held whole' under_way' held' →
+        IsFrontBehind whole' after opening log (take (i + 1) events) under_way' held'
+    front_on false is whole' under_way' held' h = front_as whole' under_way' held' h.0 h.1 h.2 (front_begins is)
+    front_on true is whole' under_way' held' (inl h) = front_as whole' under_way' held' h.1 h.2 h.3 (front_again is h.0)
+    front_on true is whole' under_way' held' (inr h) = front_as whole' under_way' held' h.2 h.3 refl (front_ends is h.1 h.0 held' h.4 h.5)
+
     pub front_more : (budget : ℕ) (under_way' : List ℕ) (held' : List (Configuration S)) (b : Bool) → e.ends ≡ b →
         IsEventPassed b after log budget e.place under_way held under_way' held' None →
-        IsFrontBehind after opening log (take (i + 1) events) under_way' held'
-    front_more budget under_way' held' false is h =
-        let P : List ℕ → Type 0 = λ z. IsFrontBehind after opening log (take (i + 1) events) z held' in
-        let Q : List (Configuration S) → Type 0 =
-        λ z. IsFrontBehind after opening log (take (i + 1) events) (under_way ++ e.place ∷ []) z in
-        subst P (sym h.0) (subst Q (sym h.1) (front_begins is))
-    front_more budget under_way' held' true is (inl h) =
-        let P : List ℕ → Type 0 = λ z. IsFrontBehind after opening log (take (i + 1) events) z held' in
-        let Q : List (Configuration S) → Type 0 = λ z. IsFrontBehind after opening log (take (i + 1) events) under_way z in
-        subst P (sym h.1) (subst Q (sym h.2) (front_again is h.0))
+        IsFrontBehind is_whole after opening log (take (i + 1) events) under_way' held'
+    front_more budget under_way' held' false is h = front_on false is is_whole under_way' held' (refl, h.0, h.1)
+    front_more budget under_way' held' true is (inl h) = front_on true is is_whole under_way' held' (inl (h.0, refl, h.1, h.2))
     front_more budget under_way' held' true is (inr h) =
-        let P : List ℕ → Type 0 = λ z. IsFrontBehind after opening log (take (i + 1) events) z held' in
-        subst P (sym h.1) (front_ends is h.0 held' h.2 h.3)
+        front_on true is is_whole under_way' held' (inr (true, h.0, sym (and_true is_whole), h.1, h.2, h.3))
+      where
+        and_true : (w : Bool) → (w && true) ≡ w
+        and_true true = refl
+        and_true false = refl
 
-    pub front_verdict : (budget : ℕ) (under_way' : List ℕ) (held' : List (Configuration S)) (verdict : Verdict) (b : Bool) → e.ends ≡ b →
-        IsEventPassed b after log budget e.place under_way held under_way' held' (Some verdict) →
+    -- or it is lost there
+    pub lost_verdict : e.ends ≡ true → is_whole ≡ true → is_in e.place under_way ≡ true →
+        IsPassed true after log under_way e.place held [] → (budget : ℕ) → IsSweepVerdict after opening log budget (Unlawful e.place)
+    lost_verdict is all h passed budget = (none_kept is h all passed, lost_there is h all passed)
+
+    pub front_verdict : is_whole ≡ true → (budget : ℕ) (under_way' : List ℕ) (held' : List (Configuration S)) (verdict : Verdict)
+        (b : Bool) → e.ends ≡ b → IsEventPassed b after log budget e.place under_way held under_way' held' (Some verdict) →
         IsSweepVerdict after opening log budget verdict
-    front_verdict budget under_way' held' verdict false is h = absurd h
-    front_verdict budget under_way' held' Lawful true is h = absurd h
-    front_verdict budget under_way' held' (Unlawful p) true is h =
-        let P : ℕ → Type 0 = λ z. IsLostAt after opening log z in
-        (none_kept is h.0 h.2, subst P (sym h.1) (lost_there is h.0 h.2))
-    front_verdict budget under_way' held' (TooMany p) true is h =
+    front_verdict all budget under_way' held' verdict false is h = absurd h
+    front_verdict all budget under_way' held' Lawful true is h = absurd h
+    front_verdict all budget under_way' held' (Unlawful p) true is h =
+        let P : ℕ → Type 0 = λ z. IsSweepVerdict after opening log budget (Unlawful z) in
+        subst P (sym h.1) (lost_verdict is all h.0 h.2 budget)
+    front_verdict all budget under_way' held' (TooMany p) true is h =
         let P : ℕ → Type 0 = λ z. AreTooMany after opening log budget z in subst P (sym h.1) (many_kept is h.0 budget h.2)
 
 module _ {S W : Type 0} (after : S → W → Option S) (opening : S) (log : List (Operation W)) (events : List Event) where
   -- before all events
   pub front_first : (under_way : List ℕ) (held : List (Configuration S)) → IsOpened opening under_way held →
-      IsFrontBehind after opening log (take 0 events) under_way held
+      IsFrontBehind true after opening log (take 0 events) under_way held
   front_first under_way held first =
-      let P : List ℕ → Type 0 = λ z. IsFrontBehind after opening log [] z held in
-      let Q : List (Configuration S) → Type 0 = λ z. IsFrontBehind after opening log [] [] z in
+      let P : List ℕ → Type 0 = λ z. IsFrontBehind true after opening log [] z held in
+      let Q : List (Configuration S) → Type 0 = λ z. IsFrontBehind true after opening log [] [] z in
       subst P (sym first.0) (subst Q (sym first.1.1) (record {
         ended = [];
         have_ended = λ q t. cc;
@@ -477,7 +497,7 @@ module _ {S W : Type 0} (after : S → W → Option S) (opening : S) (log : List
         have_begun = λ q t. cc;
         all_begun = λ q at h. let none : None ≡ Some (begins at q) = h.1 in cc;
         reached = reached;
-        complete = complete;
+        complete = λ all. complete;
         some = omega arith;
       }))
     where
@@ -500,12 +520,13 @@ module _ {S W : Type 0} (after : S → W → Option S) (opening : S) (log : List
           (0, one, refl, subst Q (sym first.1.2) (subst R (sym first.1.3) ((opened after opening cut).1 l)))
 
   -- behind all events
-  pub front_last : AreEvents log events → (under_way : List ℕ) (held : List (Configuration S)) →
-      IsFrontBehind after opening log (take (length events) events) under_way held → IsLinearizable after opening log
-  front_last are under_way held before = by_held held refl
+  pub front_last : AreEvents log events → (is_whole : Bool) (under_way : List ℕ) (held : List (Configuration S)) →
+      IsFrontBehind is_whole after opening log (take (length events) events) under_way held → IsLinearizable after opening log
+  front_last are is_whole under_way held before = by_held held refl
     where
-      front : IsFrontBehind after opening log events under_way held
-      front = let P : List Event → Type 0 = λ z. IsFrontBehind after opening log z under_way held in subst P (take_whole events) before
+      front : IsFrontBehind is_whole after opening log events under_way held
+      front =
+          let P : List Event → Type 0 = λ z. IsFrontBehind is_whole after opening log z under_way held in subst P (take_whole events) before
 
       all_over : (one : Configuration S) (p : ℕ) (o : Operation W) → slice_get log p ≡ Some o →
           is_closed front.ended one.placed.items p ≡ false → o.ends ≡ None

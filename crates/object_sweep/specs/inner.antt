@@ -1,3 +1,4 @@
+pub mod Beams
 pub mod Cuts
 pub mod Ends
 pub mod Events

@@ -1,15 +1,15 @@
 //! The end of one operation.
 
 ghost use Rattle.std.specs.Prelude.{◌≡◌, ℕ, ◌<◌, ◌≤◌, List, nat_eq, length, slice_get, false, Some, IfNone, IfOk};
-ghost use Rattle.std.specs.Prelude.{IfSome, IsTrue, OnOk};
+ghost use Rattle.std.specs.Prelude.{IfSome, IsFalse, IsTrue, OnOk, true};
 ghost use Rattle.std.specs.List.Sorted.{IsPermutation};
 ghost use Rattle.object_core.specs.declared.operation.Operation.{Operation};
 ghost use Rattle.object_sweep.specs.Reached.{is_in};
 ghost use Rattle.object_sweep.specs.inner.Ends.{AreAlwaysTooMany};
 ghost use Rattle.object_sweep.specs.inner.Steps.{AreStarted, IsClosed, IsCopyAt, IsExplored, EndsFirst, IsIdle};
 ghost use Rattle.object_sweep.specs.inner.Steps.{IsLeftOut, IsPassed, IsPureNext, IsPut, IsSorted, IsSureAndPure};
-ghost use Rattle.object_sweep.specs.inner.Steps.{IsInPlaceOf, IsTried, IsVisited, may_be_left_out};
-ghost use Rattle.object_sweep.specs.inner.Steps.{MayStandFor, StandsInFor, step_from, sure_at};
+ghost use Rattle.object_sweep.specs.inner.Steps.{IsInPlaceOf, NeedNotBeTried, IsTried, IsVisited, may_be_left_out};
+ghost use Rattle.object_sweep.specs.inner.Steps.{MayStandFor, StandsInFor, StandsOneFor, step_from, sure_at};
 
 use crate::configuration::Configuration;
 use crate::held::add;
@@ -208,6 +208,31 @@ fn first_for<O: Object>(
     first
 }
 
+/// Whether one of these may be placed for the operation at a place.
+fn is_stood_for<O: Object>(log: &[Operation<O::What>], tried: &[usize], place: usize) -> bool
+    ensures { IsTrue result → StandsOneFor O.after log.now tried.now place }
+{
+    for one in tried {
+        if may_stand_for::<O>(log, *one, place) {
+            return true;
+        }
+    }
+    false
+}
+
+/// Whether an operation has to be tried: it isn't placed, it isn't idle, and none that was tried may be placed for it.
+fn is_to_be_tried<O: Object>(
+    log: &[Operation<O::What>],
+    placed: &[usize],
+    tried: &[usize],
+    place: usize,
+) -> bool
+    ensures open { IsTrue result → is_in place placed.now ≡ false }
+    ensures needless { IsFalse result → NeedNotBeTried O.after log.now placed.now tried.now place }
+{
+    !is_in(place, placed) && !is_idle::<O>(log, place) && !is_stood_for::<O>(log, tried, place)
+}
+
 /// All that a configuration leads to.
 fn explore<O: Object>(
     alloc: Global,
@@ -222,10 +247,12 @@ fn explore<O: Object>(
         sets.old.waiting.items sets.old.kept.items sets.new.waiting.items sets.new.kept.items) }
 {
     leave_out(alloc, log, ending, from, sets)?;
+    let mut tried = Vec::new(alloc);
     for place in under_way {
-        if !is_idle::<O>(log, *place) {
+        if is_to_be_tried::<O>(log, from.placed.as_slice(), tried.as_slice(), *place) {
             let first = first_for::<O>(log, under_way, from.placed.as_slice(), *place);
             try_place(alloc, log, ending, from, first, sets)?;
+            tried.push(first)?;
         }
     }
     Ok(())
@@ -279,7 +306,7 @@ fn visit<O: Object>(
 }
 
 /// A copy of the one at this place.
-fn copied<O: Object>(
+pub(crate) fn copied<O: Object>(
     alloc: Global,
     held: &[Configuration<O>],
     place: usize,
@@ -376,8 +403,8 @@ pub(crate) fn pass<O: Object>(
 ) -> Result<Option<Vec<Configuration<O>>>, AllocError>
     ensures many { IfOk result (λ r. IfNone r (AreAlwaysTooMany O.after log.now under_way.now ending configurations.now
         budget)) }
-    ensures passed { IfOk result (λ r. IfSome r (λ v. IsPassed O.after log.now under_way.now ending configurations.now
-        v.items)) }
+    ensures passed { IfOk result (λ r. IfSome r (λ v.
+        IsPassed true O.after log.now under_way.now ending configurations.now v.items)) }
 {
     let mut sets = start(alloc, log, ending, configurations)?;
     if close(alloc, log, under_way, ending, budget, &mut sets)? {
@@ -386,4 +413,36 @@ pub(crate) fn pass<O: Object>(
     } else {
         Ok(None)
     }
+}
+
+/// What is kept behind the end of an operation.
+#[derive(Drop)]
+pub(crate) struct Passed<O> {
+    pub kept: Vec<Configuration<O>>,
+    /// Whether none was left out.
+    pub whole: bool,
+}
+
+/// How many configurations are explored at most for each that is kept.
+const EXPLORED: usize = 8;
+
+/// Of the configurations behind the end of an operation so many, those that have placed the fewest.
+pub(crate) fn pass_narrowly<O: Object>(
+    alloc: Global,
+    log: &[Operation<O::What>],
+    under_way: &[usize],
+    ending: usize,
+    configurations: &[Configuration<O>],
+    width: usize,
+) -> Result<Passed<O>, AllocError>
+    ensures { IfOk result (λ r. IsPassed r.whole O.after log.now under_way.now ending configurations.now r.kept.items) }
+{
+    let mut sets = start(alloc, log, ending, configurations)?;
+    let most = width.saturating_mul(EXPLORED);
+    let closed = close(alloc, log, under_way, ending, most, &mut sets)?;
+    let Ending { waiting: _, kept } = sets;
+    let mut kept = fewest_placed_first(kept);
+    let whole = closed && kept.len() <= width;
+    kept.truncate(width);
+    Ok(Passed { kept, whole })
 }

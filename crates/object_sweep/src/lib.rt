@@ -1,9 +1,11 @@
 //! The sweep, which decides whether a log of an object has a lawful order, after G. Lowe, 2017, and its rules.
 #![tactic(auto)]
 
+mod beam;
 mod configuration;
 mod ending;
 mod event;
+mod front;
 mod held;
 pub mod laws;
 mod log_sweep;

@@ -4,11 +4,12 @@ ghost use Rattle.std.specs.Prelude.{IfOk, MatchResult};
 ghost use Rattle.object_sweep.specs.Rests.{RunForwards};
 ghost use Rattle.object_sweep.specs.Verdicts.{IsSweepFault, IsSweepVerdict};
 ghost use Rattle.object_sweep.specs.inner.Ends.{IsEndPassed, IsEventPassed};
-ghost use Rattle.object_sweep.specs.inner.Events.{AreEvents, IsOpened};
+ghost use Rattle.object_sweep.specs.inner.Events.{AreEvents};
 
-use crate::configuration::Configuration;
+use crate::beam::{Narrow, sweep_narrowly};
 use crate::ending::pass;
 use crate::event::{Event, events_in, first_backwards};
+use crate::front::{Front, Mark};
 use crate::places::{is_in, without};
 use object_core::{Object, Operation};
 use std::alloc::{AllocError, Global};
@@ -32,15 +33,9 @@ pub enum SweepError {
     Backwards { place: usize },
 }
 
-/// What the sweep holds behind an event.
-#[derive(Drop)]
-struct Front<O> {
-    under_way: Vec<usize>,
-    configurations: Vec<Configuration<O>>,
-}
-
 /// Whether a log of an object has a lawful order. The sweep goes over beginnings and ends, and at each end explores
-/// what may be placed by then. It gives up where more configurations than the budget are held.
+/// what may be placed by then. A narrow one holds few configurations; where that doesn't get through another one holds
+/// all, and gives up if these are more than the budget.
 pub fn sweep<O: Object>(
     alloc: Global,
     opening: O,
@@ -82,25 +77,20 @@ fn sweep_events<O: Object>(
     requires events { AreEvents log.now events.now }
     ensures { IfOk result (IsSweepVerdict O.after opening log.now budget) }
 {
-    let mut front = first_front(alloc, opening)?;
-    for event in events {
-        if let Some(verdict) = pass_event(alloc, log, event, budget, &mut front)? {
+    let Mark {
+        mut done,
+        mut front,
+    } = match sweep_narrowly(alloc, opening, log, events, budget)? {
+        Narrow::Known(verdict) => return Ok(verdict),
+        Narrow::Open(mark) => mark,
+    };
+    while done < events.len() {
+        if let Some(verdict) = pass_event(alloc, log, &events[done], budget, &mut front)? {
             return Ok(verdict);
         }
+        done += 1;
     }
     Ok(Verdict::Lawful)
-}
-
-/// Nothing is under way, and the object is as it was opened.
-fn first_front<O: Object>(alloc: Global, opening: O) -> Result<Front<O>, AllocError>
-    ensures { IfOk result (λ f. IsOpened opening f.under_way.items f.configurations.items) }
-{
-    let mut configurations = Vec::with_capacity(alloc, 1)?;
-    configurations.push(Configuration::new(opening, Vec::new(alloc)))?;
-    Ok(Front {
-        under_way: Vec::new(alloc),
-        configurations,
-    })
 }
 
 /// The end of the operation at a place: a verdict, or the front behind it.

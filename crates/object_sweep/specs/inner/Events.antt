@@ -1,5 +1,6 @@
 -- The events of a log, and what the sweep holds behind the first of them. Only private functions cite this.
-use Rattle.std.specs.Prelude.{◌≡◌, ℕ, ◌<◌, ◌≤◌, true, false, List, [], ◌∷◌, length, slice_get, Option, None, Some}
+use Rattle.std.specs.Prelude.{◌≡◌, ℕ, ◌<◌, ◌≤◌, Bool, true, false, List, [], ◌∷◌, length, slice_get, Option, None}
+use Rattle.std.specs.Prelude.{Some}
 use Rattle.object_core.specs.declared.operation.Operation.{Operation}
 use Rattle.object_core.specs.Logs.{IsLinearizable}
 use Rattle.object_sweep.specs.declared.configuration.Configuration.{Configuration}
@@ -55,10 +56,9 @@ IsOpened {S} opening under_way configurations = (under_way ≡ []) ×
     ((one : Configuration S) × (configurations ≡ one ∷ []) × (one.state ≡ opening) × (one.placed.items ≡ []))
 
 module _ {S W : Type 0} where
-  -- what is held behind these events
-  pub record IsFrontBehind (after : S → W → Option S) (opening : S) (log : List (Operation W)) (done : List Event)
-      (under_way : List ℕ)
-      (configurations : List (Configuration S)) : Type 0 where
+  -- what is held behind these events: each is reached, and if nothing was left out, what can be finished is among them
+  pub record IsFrontBehind (whole : Bool) (after : S → W → Option S) (opening : S) (log : List (Operation W))
+      (done : List Event) (under_way : List ℕ) (configurations : List (Configuration S)) : Type 0 where
     pub ended : List ℕ
     pub have_ended : (q : ℕ) → is_in q ended ≡ true → (at : ℕ) × IsEventAmong (ends at q) done
     pub all_ended : (q at : ℕ) → IsEventAmong (ends at q) done → is_in q ended ≡ true
@@ -66,6 +66,6 @@ module _ {S W : Type 0} where
         × (is_in q ended ≡ false)
     pub all_begun : (q at : ℕ) → IsEventAmong (begins at q) done → is_in q ended ≡ false → is_in q under_way ≡ true
     pub reached : AreReachable after opening log ended configurations
-    pub complete : (cut : List (Operation W)) → IsLogCut log cut → KeepsEnds log cut ended →
+    pub complete : whole ≡ true → (cut : List (Operation W)) → IsLogCut log cut → KeepsEnds log cut ended →
         IsLinearizable after opening cut → AnyCanFinish after cut ended configurations
     pub some : 0 < length configurations

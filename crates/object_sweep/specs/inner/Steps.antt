@@ -164,6 +164,16 @@ module _ {S W : Type 0} where
       (r ≡ q) ⊎ ((is_in r under_way ≡ true) × (is_in r placed ≡ false)
       × MayStandFor after r q (slice_get log r) (slice_get log q))
 
+  -- one of these may be in its place
+  abbrev pub StandsOneFor : (S → W → Option S) → List (Operation W) → List ℕ → ℕ → Type 0
+  StandsOneFor after log tried q = (i r : ℕ) × (slice_get tried i ≡ Some r)
+      × MayStandFor after r q (slice_get log r) (slice_get log q)
+
+  -- an operation need not be tried: it is placed, or idle, or one that was tried may be in its place
+  abbrev pub NeedNotBeTried : (S → W → Option S) → List (Operation W) → List ℕ → List ℕ → ℕ → Type 0
+  NeedNotBeTried after log placed tried q =
+      (is_in q placed ≡ true) ⊎ (IsIdle after (slice_get log q) ⊎ StandsOneFor after log tried q)
+
   -- what an operation leads to is held, or what another one leads to that is placed for it
   abbrev pub IsPlacedFor : (ℕ → Bool) → (S → W → Option S) → List (Operation W) → List ℕ → ℕ → List ℕ → ℕ → S →
       List (Configuration S) → List (Configuration S) → Type 0
@@ -258,13 +268,14 @@ module _ {S W : Type 0} where
   AnyCanFinish after log ended held = (i : ℕ) × (one : Configuration S) × (slice_get held i ≡ Some one)
       × CanFinish after log (is_closed ended one.placed.items) one.state
 
-  -- behind an end: what is kept, or that there are too many
-  pub record IsPassed (after : S → W → Option S) (log : List (Operation W)) (under_way : List ℕ) (ending : ℕ)
-      (configurations kept : List (Configuration S)) : Type 0 where
+  -- behind an end: what is kept is reached, and if nothing was left out, all that can be finished
+  pub record IsPassed (whole : Bool) (after : S → W → Option S) (log : List (Operation W)) (under_way : List ℕ)
+      (ending : ℕ) (configurations kept : List (Configuration S)) : Type 0 where
     pub reached : (opening : S) (ended : List ℕ) (end : ℕ) → IsNextEnd log ended ending end →
         AreUnderWay log under_way ended end →
         AreReachable after opening log ended configurations → AreReachable after opening log (ending ∷ ended) kept
-    pub complete : (opening : S) (ended : List ℕ) (end : ℕ) → RunForwards log → IsNextEnd log ended ending end →
-        AreUnderWay log under_way ended end → AreReachable after opening log ended configurations →
+    pub complete : whole ≡ true → (opening : S) (ended : List ℕ) (end : ℕ) → RunForwards log →
+        IsNextEnd log ended ending end → AreUnderWay log under_way ended end →
+        AreReachable after opening log ended configurations →
         (cut : List (Operation W)) → IsLogCut log cut → EndsAt cut ending end →
         AnyCanFinish after cut ended configurations → AnyCanFinish after cut (ending ∷ ended) kept

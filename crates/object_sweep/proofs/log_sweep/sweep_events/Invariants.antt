@@ -1,8 +1,11 @@
--- What is held behind the events met so far.
-use Rattle.std.proofs.Common.{take}
+-- What is held behind the events met so far, where nothing was left out.
+use Rattle.std.proofs.Common.{◌-◌, ◌≤◌, length, take, true}
 use Rattle.object_sweep.specs.inner.Events.{IsFrontBehind}
 use Rattle.object_sweep.proofs.log_sweep.sweep_events.Given as goal
 
-abbrev pub invariant-loop-event : goal.invariant-loop-event
-invariant-loop-event g l = IsFrontBehind g.O.Object.after l.fn.opening l.log (take l.event-index l.events) l.front.under_way.items
-    l.front.configurations.items
+abbrev pub invariant-loop-done : goal.invariant-loop-done
+invariant-loop-done g l = (l.done ≤ length l.events) × IsFrontBehind true g.O.Object.after l.fn.opening l.log (take l.done l.events)
+    l.front.under_way.items l.front.configurations.items
+
+abbrev pub decreases-loop-done : goal.decreases-loop-done
+decreases-loop-done g l = length l.events - l.done

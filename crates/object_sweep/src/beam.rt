@@ -1,0 +1,236 @@
+//! A sweep that holds few configurations: it may find a lawful order where there are too many to hold them all.
+
+ghost use Rattle.std.specs.Prelude.{◌≡◌, IfOk, OnOk, true};
+ghost use Rattle.object_sweep.specs.Rests.{RunForwards};
+ghost use Rattle.object_sweep.specs.inner.Beams.{AreLeftOf, IsFirstMark, IsMarkOf, IsNarrow, MayHaveMarked};
+ghost use Rattle.object_sweep.specs.inner.Ends.{IsNarrowlyPassed};
+ghost use Rattle.object_sweep.specs.inner.Events.{AreEvents};
+
+use crate::ending::{Passed, pass_narrowly};
+use crate::event::Event;
+use crate::front::{Front, Mark, copied_front, first_front};
+use crate::log_sweep::Verdict;
+use crate::places::{is_in, without};
+use object_core::{Object, Operation};
+use std::alloc::{AllocError, Global};
+
+/// How many configurations are held at first.
+const NARROW: usize = 32;
+/// And at most.
+const WIDEST: usize = 512;
+/// What the width and the number of marks to go back grow by where nothing is left.
+const GROWS_BY: usize = 4;
+/// The events from one mark to the next.
+const MARK_EVERY: usize = 512;
+/// How often an event may be passed, in the mean.
+const PASSES: usize = 2;
+
+/// What one event leads to.
+#[derive(Clone, Copy, PartialEq, Eq, Drop)]
+pub(crate) enum Passing {
+    /// On: something is held behind it.
+    On,
+    /// The log is lost there, as nothing was left out.
+    Lost,
+    /// Nothing is held, and something was left out.
+    Nothing,
+}
+
+/// What a narrow sweep leads to.
+#[derive(Drop)]
+pub(crate) enum Narrow<O> {
+    Known(Verdict),
+    /// No verdict, and a front in which nothing was left out.
+    Open(Mark<O>),
+}
+
+/// How many are held, and until which event, and how many marks to go back if nothing is.
+#[derive(Clone, Copy, Drop)]
+struct Beam {
+    width: usize,
+    back: usize,
+    until: usize,
+}
+
+impl Beam {
+    const fn narrow() -> Beam {
+        Beam {
+            width: NARROW,
+            back: 1,
+            until: 0,
+        }
+    }
+
+    /// A wider one, until well behind this event.
+    const fn widened(self, done: usize) -> Beam {
+        Beam {
+            width: self.width.saturating_mul(GROWS_BY),
+            back: self.back.saturating_mul(GROWS_BY),
+            until: done.saturating_add(MARK_EVERY),
+        }
+    }
+
+    /// The same, or the narrow one where it has gone far enough.
+    const fn behind(self, done: usize) -> Beam {
+        if done < self.until {
+            self
+        } else {
+            Beam::narrow()
+        }
+    }
+}
+
+/// The end of the operation at a place, behind which no more are held than this many.
+fn end_narrowly<O: Object>(
+    alloc: Global,
+    log: &[Operation<O::What>],
+    place: usize,
+    width: usize,
+    front: &mut Front<O>,
+) -> Result<Passing, AllocError>
+    ensures { IfOk result (IsNarrowlyPassed true O.after log.now place front.old.whole front.old.under_way.items
+        front.old.configurations.items front.new.whole front.new.under_way.items front.new.configurations.items) }
+{
+    if !is_in(place, front.under_way.as_slice()) {
+        return Ok(Passing::On);
+    }
+    let held = front.configurations.as_slice();
+    let Passed { kept, whole } = pass_narrowly(
+        alloc,
+        log,
+        front.under_way.as_slice(),
+        place,
+        held,
+        width,
+    )?;
+    if kept.is_empty() {
+        let lost = front.whole && whole;
+        return Ok(if lost {
+            Passing::Lost
+        } else {
+            Passing::Nothing
+        });
+    }
+    front.under_way = without(alloc, place, front.under_way.as_slice())?;
+    front.configurations = kept;
+    front.whole = front.whole && whole;
+    Ok(Passing::On)
+}
+
+/// One more event.
+fn pass_event_narrowly<O: Object>(
+    alloc: Global,
+    log: &[Operation<O::What>],
+    event: &Event,
+    width: usize,
+    front: &mut Front<O>,
+) -> Result<Passing, AllocError>
+    ensures { IfOk result (IsNarrowlyPassed event.now.ends O.after log.now event.now.place front.old.whole
+        front.old.under_way.items front.old.configurations.items front.new.whole front.new.under_way.items
+        front.new.configurations.items) }
+{
+    if event.ends {
+        return end_narrowly(alloc, log, event.place, width, front);
+    }
+    front.under_way.push(event.place)?;
+    Ok(Passing::On)
+}
+
+/// The mark before all events.
+fn first_mark<O: Object>(alloc: Global, opening: O) -> Result<Mark<O>, AllocError>
+    ensures { IfOk result (IsFirstMark opening) }
+{
+    let front = first_front(alloc, opening)?;
+    Ok(Mark { done: 0, front })
+}
+
+/// Marks this place, at every so many events.
+fn mark<O: Object>(alloc: Global, at: &Mark<O>, marks: &mut Vec<Mark<O>>) -> Result<(), AllocError>
+    ensures { OnOk result (MayHaveMarked at.now marks.old.items marks.new.items) }
+{
+    if at.done % MARK_EVERY != 0 {
+        return Ok(());
+    }
+    let front = copied_front(alloc, &at.front)?;
+    marks.push(Mark {
+        done: at.done,
+        front,
+    })?;
+    Ok(())
+}
+
+/// The mark that is so many back; those before it are left.
+fn go_back<O: Object>(
+    alloc: Global,
+    opening: O,
+    back: usize,
+    marks: &mut Vec<Mark<O>>,
+) -> Result<Mark<O>, AllocError>
+    ensures { IfOk result (λ mark.
+        IsMarkOf opening marks.old.items mark × AreLeftOf marks.old.items marks.new.items) }
+{
+    let left = marks.len().saturating_sub(back.saturating_sub(1));
+    marks.truncate(left);
+    match marks.pop() {
+        Some(mark) => Ok(mark),
+        None => first_mark(alloc, opening),
+    }
+}
+
+/// The last mark at which nothing was left out.
+fn last_whole<O: Object>(
+    alloc: Global,
+    opening: O,
+    marks: Vec<Mark<O>>,
+) -> Result<Mark<O>, AllocError>
+    ensures { IfOk result (λ mark. IsMarkOf opening marks.items mark × (mark.front.whole ≡ true)) }
+{
+    let mut marks = marks;
+    while let Some(mark) = marks.pop() {
+        if mark.front.whole {
+            return Ok(mark);
+        }
+    }
+    first_mark(alloc, opening)
+}
+
+/// Sweeps with few configurations. Where nothing is left it goes back to a mark, and is wider for a while.
+pub(crate) fn sweep_narrowly<O: Object>(
+    alloc: Global,
+    opening: O,
+    log: &[Operation<O::What>],
+    events: &[Event],
+    budget: usize,
+) -> Result<Narrow<O>, AllocError>
+    requires forwards { RunForwards log.now }
+    requires events { AreEvents log.now events.now }
+    ensures { IfOk result (IsNarrow O.after opening log.now events.now budget) }
+{
+    let mut marks = Vec::new(alloc);
+    let mut at = first_mark(alloc, opening)?;
+    let mut beam = Beam::narrow();
+    let mut left = events.len().saturating_mul(PASSES);
+    while at.done < events.len() && left > 0 && beam.width <= budget.min(WIDEST) {
+        left -= 1;
+        let event = &events[at.done];
+        match pass_event_narrowly(alloc, log, event, beam.width, &mut at.front)? {
+            Passing::On => {
+                at.done += 1;
+                beam = beam.behind(at.done);
+                mark(alloc, &at, &mut marks)?;
+            }
+            Passing::Lost => {
+                let place = event.place;
+                return Ok(Narrow::Known(Verdict::Unlawful { place }));
+            }
+            Passing::Nothing => {
+                beam = beam.widened(at.done);
+                at = go_back(alloc, opening, beam.back, &mut marks)?;
+            }
+        }
+    }
+    if at.done < events.len() {
+        return Ok(Narrow::Open(last_whole(alloc, opening, marks)?));
+    }
+    Ok(Narrow::Known(Verdict::Lawful))
+}
