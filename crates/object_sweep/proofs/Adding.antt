@@ -135,7 +135,7 @@ module _ {S : Type 0} (sure : ℕ → Bool) where
       (f.0, f.1, λ u e. subst (λ z. IsPutIn sure (nat_eq q ending) q z placed waiting' kept') (same_Some t u e) f.2)
 
 module _ {S W : Type 0} (sure : ℕ → Bool) (after : S → W → Option S) (opening : S) (log : List (Operation W)) where
-  reached_of : (ended : List ℕ) (one : Configuration S) (s : S) (placed : List ℕ) → IsMadeOf one s placed →
+  pub reached_of : (ended : List ℕ) (one : Configuration S) (s : S) (placed : List ℕ) → IsMadeOf one s placed →
       IsReachable after opening log ended s placed → IsReachable after opening log ended one.state one.placed.items
   reached_of ended one s placed of h =
       let P : S → Type 0 = λ z. IsReachable after opening log ended z one.placed.items in
@@ -245,7 +245,7 @@ module _ {S W : Type 0} (sure : ℕ → Bool) (after : S → W → Option S) (op
       subst P (sym put.0) (sound_waiting ended ending waiting kept waiting' t (placed ++ q ∷ []) put.1
       (Places ended placed s h ending end q t next can) lacks yet)
 
-  tried_sound : (ended under_way : List ℕ) (ending end : ℕ) → IsNextEnd log ended ending end → AreUnderWay log under_way ended end →
+  pub tried_sound : (ended under_way : List ℕ) (ending end : ℕ) → IsNextEnd log ended ending end → AreUnderWay log under_way ended end →
       (s : S) (placed : List ℕ) (n q : ℕ) → slice_get under_way n ≡ Some q → IsReachable after opening log ended s placed →
       is_in ending placed ≡ false → (waiting kept waiting' kept' : List (Configuration S)) (m : Option S) →
       step_from after log s placed q ≡ m → IsTried sure m ending placed q waiting kept waiting' kept' →
@@ -258,7 +258,7 @@ module _ {S W : Type 0} (sure : ℕ → Bool) (after : S → W → Option S) (op
       put_sound ended under_way ending end next s placed q t (placing ended under_way end way s placed n q t at e) h lack waiting kept
       waiting' kept' (nat_eq q ending) refl tried yet
 
-  left_sound : (ended : List ℕ) (ending end : ℕ) → IsNextEnd log ended ending end → (s : S) (placed : List ℕ) →
+  pub left_sound : (ended : List ℕ) (ending end : ℕ) → IsNextEnd log ended ending end → (s : S) (placed : List ℕ) →
       IsReachable after opening log ended s placed → is_in ending placed ≡ false → (waiting kept waiting' kept' : List (Configuration S))
       (b : Bool) → may_be_left_out log ending ≡ b → IsLeftOut sure b s placed waiting kept waiting' kept' →
       AreSound after opening log ended ending waiting kept → AreSound after opening log ended ending waiting' kept'
@@ -326,7 +326,7 @@ module _ {S W : Type 0} (sure : ℕ → Bool) (after : S → W → Option S) (lo
       let p = step_parts sure after s log s placed q t e in
       ap (λ b. cond b None (made_by after s (slice_get log r))) for.1 ∙ made_for s t r q (slice_get log r) (slice_get log q) for.2 p.1
 
-  place_for : (under_way placed : List ℕ) (n r q : ℕ) → slice_get under_way n ≡ Some q → StandsInFor after log under_way placed r q →
+  pub place_for : (under_way placed : List ℕ) (n r q : ℕ) → slice_get under_way n ≡ Some q → StandsInFor after log under_way placed r q →
       (m : ℕ) × (slice_get under_way m ≡ Some r)
   place_for under_way placed n r q at (inl same) = (n, at ∙ ap Some (sym same))
   place_for under_way placed n r q at (inr for) = at_is_in under_way r for.0

@@ -1,7 +1,6 @@
 -- A sweep with few configurations: what it keeps of an end, and the marks to which it goes back.
-use Rattle.std.proofs.Common.{◌≡◌, ℕ, ◌+◌, ◌<◌, ◌≤◌, Bool, true, false, List, [], ◌∷◌, ◌++◌, length, slice_get}
+use Rattle.std.proofs.Common.{◌≡◌, ℕ, ◌+◌, ◌<◌, ◌≤◌, Bool, List, [], ◌∷◌, ◌++◌, length, slice_get}
 use Rattle.std.proofs.Common.{get_or, take, Option, Some, refl, sym, ◌∙◌, ap, subst, arith, ◌⊎◌, inl, inr}
-use Rattle.std.proofs.lemmas.List.{take_all}
 use Rattle.std.proofs.lemmas.Option.{same_Some, slice_get-get_or, slice_get_within}
 use Rattle.object_core.specs.declared.operation.Operation.{Operation}
 use Rattle.object_core.specs.Logs.{IsLinearizable}
@@ -15,49 +14,12 @@ use Rattle.object_sweep.specs.inner.Beams.{AreCopies, AreLeftOf, AreMarksBehind,
 use Rattle.object_sweep.specs.inner.Beams.{MayHaveMarked}
 use Rattle.object_sweep.specs.inner.Ends.{IsNarrowlyPassed}
 use Rattle.object_sweep.specs.inner.Events.{AreEvents, IsFrontBehind}
-use Rattle.object_sweep.specs.inner.Steps.{AnyCanFinish, AreExplored, AreStarted, IsClosed, IsCopyAt, IsMadeOf, IsPassed, sure_at}
+use Rattle.object_sweep.specs.inner.Steps.{AnyCanFinish, IsCopyAt, IsMadeOf}
 use Rattle.object_sweep.specs.Reached.{AreReachable, is_closed, IsReachable}
 use Rattle.object_sweep.specs.Rests.{CanFinish, RunForwards}
 use Rattle.object_sweep.specs.Verdicts.{IsSweepVerdict}
-use Rattle.object_sweep.proofs.Adding.{passed}
-use Rattle.object_sweep.proofs.Fronts.{front_first, front_last, front_on, lost_verdict, taken}
+use Rattle.object_sweep.proofs.Fronts.{front_first, front_last, front_on, lost_verdict}
 use Rattle.object_sweep.proofs.Lists.{get_front, get_push}
-
--- behind an end, where not all may have been explored
-module _ {S W : Type 0} (after : S → W → Option S) (log : List (Operation W)) where
-  passed_open : (under_way : List ℕ) (ending n : ℕ) (configurations first first' waiting kept : List (Configuration S)) →
-      AreStarted (sure_at log) after log ending (length configurations) configurations first first' →
-      AreExplored (sure_at log) after log under_way ending n first first' waiting kept →
-      IsPassed false after log under_way ending configurations kept
-  passed_open under_way ending n configurations first first' waiting kept started explored = record {
-    reached = λ opening ended end next way reached. (explored.sound opening ended end next way (started.sound opening ended end next
-        reached)).reached_kept;
-    complete = λ e. absurd (never e);
-  }
-    where
-      never : false ≡ true → ⊥
-      never e = cc
-
-  pub passed_some : (under_way : List ℕ) (ending most : ℕ) (configurations first first' waiting kept : List (Configuration S)) →
-      AreStarted (sure_at log) after log ending (length configurations) configurations first first' → (b : Bool) →
-      IsClosed (sure_at log) after log under_way ending most first first' waiting kept b →
-      IsPassed b after log under_way ending configurations kept
-  passed_some under_way ending most configurations first first' waiting kept started true closed =
-      passed after log under_way ending configurations first first' waiting kept started closed
-  passed_some under_way ending most configurations first first' waiting kept started false closed =
-      passed_open under_way ending closed.0 configurations first first' waiting kept started closed.1
-
-  -- the first n of them
-  pub passed_few : (under_way : List ℕ) (ending n : ℕ) (configurations kept : List (Configuration S)) (w v : Bool) →
-      IsPassed w after log under_way ending configurations kept → (v ≡ true → (w ≡ true) × (length kept ≤ n)) →
-      IsPassed v after log under_way ending configurations (take n kept)
-  passed_few under_way ending n configurations kept w v h all = record {
-    reached = λ opening ended end next way reached i one at. h.reached opening ended end next way reached i one (taken kept n i one at).1;
-    complete = λ e opening ended end forwards next way reached cut is ends any.
-        let P : List (Configuration S) → Type 0 = λ z. AnyCanFinish after cut (ending ∷ ended) z in
-        let a = all e in
-        subst P (sym (take_all n kept a.1)) (h.complete a.0 opening ended end forwards next way reached cut is ends any);
-  }
 
 module _ {S : Type 0} where
   -- copies

@@ -11,6 +11,7 @@ pub mod Cuts
 pub mod Exact
 pub mod Adding
 pub mod Fronts
+pub mod Reaching
 pub mod Beams
 pub mod Events
 pub mod TooMany

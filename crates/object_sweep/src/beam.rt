@@ -6,17 +6,15 @@ ghost use Rattle.object_sweep.specs.inner.Beams.{AreLeftOf, IsFirstMark, IsMarkO
 ghost use Rattle.object_sweep.specs.inner.Ends.{IsNarrowlyPassed};
 ghost use Rattle.object_sweep.specs.inner.Events.{AreEvents};
 
-use crate::ending::{Passed, pass_narrowly};
 use crate::event::Event;
 use crate::front::{Front, Mark, copied_front, first_front};
 use crate::log_sweep::Verdict;
+use crate::narrow::{NARROW, Passed, pass_narrowly};
 use crate::places::{is_in, without};
 use object_core::{Object, Operation};
 use std::alloc::{AllocError, Global};
 
-/// How many configurations are held at first.
-const NARROW: usize = 32;
-/// And at most.
+/// How many configurations are held at most.
 const WIDEST: usize = 512;
 /// What the width and the number of marks to go back grow by where nothing is left.
 const GROWS_BY: usize = 4;

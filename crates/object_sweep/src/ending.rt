@@ -27,7 +27,7 @@ pub(crate) struct Ending<O> {
 }
 
 /// The state after one more operation, if it can be placed.
-fn step_from<O: Object>(
+pub(crate) fn step_from<O: Object>(
     log: &[Operation<O::What>],
     state: O,
     placed: &[usize],
@@ -77,7 +77,7 @@ fn put<O: Object>(
 }
 
 /// Places one more operation, if it can be.
-fn try_place<O: Object>(
+pub(crate) fn try_place<O: Object>(
     alloc: Global,
     log: &[Operation<O::What>],
     ending: usize,
@@ -103,7 +103,7 @@ fn try_place<O: Object>(
 }
 
 /// Leaves out the operation that ends, if it may have done nothing.
-fn leave_out<O: Object>(
+pub(crate) fn leave_out<O: Object>(
     alloc: Global,
     log: &[Operation<O::What>],
     ending: usize,
@@ -188,7 +188,7 @@ fn is_sooner<O: Object>(
 }
 
 /// Which operation is placed for this one, if it isn't placed: of those that may be, one that ends first.
-fn first_for<O: Object>(
+pub(crate) fn first_for<O: Object>(
     log: &[Operation<O::What>],
     under_way: &[usize],
     placed: &[usize],
@@ -221,7 +221,7 @@ fn is_stood_for<O: Object>(log: &[Operation<O::What>], tried: &[usize], place: u
 }
 
 /// Whether an operation has to be tried: it isn't placed, it isn't idle, and none that was tried may be placed for it.
-fn is_to_be_tried<O: Object>(
+pub(crate) fn is_to_be_tried<O: Object>(
     log: &[Operation<O::What>],
     placed: &[usize],
     tried: &[usize],
@@ -269,7 +269,7 @@ fn is_sure_and_pure<O: Object>(log: &[Operation<O::What>], place: usize) -> bool
 }
 
 /// The first of those under way that is sure and pure and can be placed.
-fn pure_next<O: Object>(
+pub(crate) fn pure_next<O: Object>(
     log: &[Operation<O::What>],
     under_way: &[usize],
     from: &Configuration<O>,
@@ -320,7 +320,7 @@ pub(crate) fn copied<O: Object>(
 }
 
 /// Explores what waits until that leads to nothing new; false where more are held than the budget.
-fn close<O: Object>(
+pub(crate) fn close<O: Object>(
     alloc: Global,
     log: &[Operation<O::What>],
     under_way: &[usize],
@@ -364,7 +364,7 @@ fn sort<O: Object>(
 }
 
 /// The configurations as an end begins.
-fn start<O: Object>(
+pub(crate) fn start<O: Object>(
     alloc: Global,
     log: &[Operation<O::What>],
     ending: usize,
@@ -384,7 +384,7 @@ fn start<O: Object>(
 }
 
 /// The same configurations, those that have placed fewer first: only one that has placed fewer may cover another.
-fn fewest_placed_first<O: Object>(kept: Vec<Configuration<O>>) -> Vec<Configuration<O>>
+pub(crate) fn fewest_placed_first<O: Object>(kept: Vec<Configuration<O>>) -> Vec<Configuration<O>>
     ensures { IsPermutation kept.items result.items }
 {
     let mut kept = kept;
@@ -413,36 +413,4 @@ pub(crate) fn pass<O: Object>(
     } else {
         Ok(None)
     }
-}
-
-/// What is kept behind the end of an operation.
-#[derive(Drop)]
-pub(crate) struct Passed<O> {
-    pub kept: Vec<Configuration<O>>,
-    /// Whether none was left out.
-    pub whole: bool,
-}
-
-/// How many configurations are explored at most for each that is kept.
-const EXPLORED: usize = 8;
-
-/// Of the configurations behind the end of an operation so many, those that have placed the fewest.
-pub(crate) fn pass_narrowly<O: Object>(
-    alloc: Global,
-    log: &[Operation<O::What>],
-    under_way: &[usize],
-    ending: usize,
-    configurations: &[Configuration<O>],
-    width: usize,
-) -> Result<Passed<O>, AllocError>
-    ensures { IfOk result (λ r. IsPassed r.whole O.after log.now under_way.now ending configurations.now r.kept.items) }
-{
-    let mut sets = start(alloc, log, ending, configurations)?;
-    let most = width.saturating_mul(EXPLORED);
-    let closed = close(alloc, log, under_way, ending, most, &mut sets)?;
-    let Ending { waiting: _, kept } = sets;
-    let mut kept = fewest_placed_first(kept);
-    let whole = closed && kept.len() <= width;
-    kept.truncate(width);
-    Ok(Passed { kept, whole })
 }

@@ -9,6 +9,7 @@ mod front;
 mod held;
 pub mod laws;
 mod log_sweep;
+mod narrow;
 mod places;
 
 pub use configuration::Configuration;

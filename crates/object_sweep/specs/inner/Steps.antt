@@ -1,6 +1,6 @@
 -- What one step of the sweep adds to the configurations. Only private functions cite this.
 use Rattle.std.specs.Prelude.{◌≡◌, ℕ, ◌<◌, ◌≤◌, Bool, true, false, nat_eq, cond, List, [], ◌∷◌, ◌++◌, length, slice_get}
-use Rattle.std.specs.Prelude.{Option, None, Some}
+use Rattle.std.specs.Prelude.{take, Option, None, Some}
 use Rattle.std.specs.Prelude.{◌⊎◌, ◌||◌, not}
 use Rattle.std.specs.List.{list_all}
 use Rattle.object_core.specs.declared.operation.Operation.{Operation}
@@ -279,3 +279,23 @@ module _ {S W : Type 0} where
         AreReachable after opening log ended configurations →
         (cut : List (Operation W)) → IsLogCut log cut → EndsAt cut ending end →
         AnyCanFinish after cut ended configurations → AnyCanFinish after cut (ending ∷ ended) kept
+
+  -- where a configuration is reached, what it adds is reached too
+  abbrev pub AddsReached : (S → W → Option S) → List (Operation W) → List ℕ → ℕ → S → List ℕ → List (Configuration S) →
+      List (Configuration S) → List (Configuration S) → List (Configuration S) → Type 0
+  AddsReached after log under_way ending s placed waiting kept waiting' kept' = (opening : S) (ended : List ℕ)
+      (end : ℕ) → IsNextEnd log ended ending end → AreUnderWay log under_way ended end →
+      IsReachable after opening log ended s placed → is_in ending placed ≡ false →
+      AreSound after opening log ended ending waiting kept → AreSound after opening log ended ending waiting' kept'
+
+  -- where all are reached, those that are added are too
+  abbrev pub KeepsSound : (S → W → Option S) → List (Operation W) → List ℕ → ℕ → List (Configuration S) →
+      List (Configuration S) → List (Configuration S) → List (Configuration S) → Type 0
+  KeepsSound after log under_way ending waiting kept waiting' kept' = (opening : S) (ended : List ℕ) (end : ℕ) →
+      IsNextEnd log ended ending end → AreUnderWay log under_way ended end →
+      AreSound after opening log ended ending waiting kept → AreSound after opening log ended ending waiting' kept'
+
+-- the first so many of these; they are whole if all of them are, and no more
+abbrev pub IsNarrowed : {S : Type 0} → ℕ → List (Configuration S) → List (Configuration S) → Bool → Bool → Type 0
+IsNarrowed width all kept whole whole' =
+    (kept ≡ take width all) × (whole' ≡ true → (whole ≡ true) × (length all ≤ width))
