@@ -26,6 +26,20 @@
  *
  *   nidzaru_log_merge(stdout, logs, 2, nidzaru_log_record_of(opening.number, &opening, sizeof opening), 0)
  *
+ * While the threads run, one thread may write what they have ended by now, and a floor, below which nothing more begins. `fsr watch` reads
+ * that as it comes, and tells at once where it is lost:
+ *
+ *   nidzaru_log_header(stdout, opening, 0);
+ *   while (run) nidzaru_log_drain(stdout, logs, 2);          with a pause between two; no thread waits for it
+ *   nidzaru_log_finish(stdout, logs, 2);                     when the threads are joined, or stand still for good
+ *
+ * The floor is the least begin of what is under way. A thread that is between two calls holds it at its last end, until it says
+ * nidzaru_log_pause(&log); one that hasn't begun, has left or whose log is full doesn't hold it. A call that hangs holds it at its begin:
+ * `fsr watch` then tells nothing that came later, and its time grows with the square of what comes. nidzaru_log_holder says whose log that
+ * is, and the line of the floor has its `who`. nidzaru_log_give_up gives a thread up that never comes back: its write is written without an
+ * end. If a log has a fault, such as an operation without room, the last line is of kind `fault`, which every judge refuses. What is cut
+ * off before its line `done`, as by a kill, may lack the write of a read: don't trust what is said of its end.
+ *
  * A record is [number, hash]. The number stands in the data; no two writes have the same, and none has the opening's. The hash is of
  * all bytes, so data of two writes that were mixed show as a record that nobody wrote (unless two hashes are equal by chance). Bytes
  * between the members of a struct count as well: set them to zero, or pass data that has none. The first NIDZARU_LOG_WORDS words of 8
@@ -122,6 +136,7 @@
 
 #define NIDZARU_LOG_INLINE __attribute__((unused)) static inline
 #define NIDZARU_LOG_CHECKED __attribute__((warn_unused_result)) NIDZARU_LOG_INLINE
+#define NIDZARU_LOG_SELDOM __attribute__((unused, noinline)) static
 
 /* Why no log was opened, or none was merged. 0 is that all went well. */
 enum {
@@ -130,7 +145,8 @@ enum {
     NIDZARU_LOG_UNPAIRED = 3,  /* an operation began within another of its thread, or ended and hadn't begun */
     NIDZARU_LOG_NO_LIMIT = 4,  /* a write was refused, and no limit was told */
     NIDZARU_LOG_STREAM = 5,    /* the stream took not all of it */
-    NIDZARU_LOG_NO_FILE = 6    /* a log's file can't be made, or isn't one */
+    NIDZARU_LOG_NO_FILE = 6,   /* a log's file can't be made, or isn't one */
+    NIDZARU_LOG_CAME_BACK = 7  /* a thread that was given up began another operation */
 };
 
 enum { NIDZARU_LOG_NOTHING, NIDZARU_LOG_WRITE, NIDZARU_LOG_READ, NIDZARU_LOG_REFUSED };
@@ -154,7 +170,9 @@ typedef struct {
     uint64_t who, room, count, lost, unpaired, refused;
     uint64_t turn;  /* how many operations ended, or NIDZARU_LOG_LEFT; other threads load it */
     uint64_t words; /* NIDZARU_LOG_WORDS, on which the size of an operation depends */
-    uint64_t place, apart[6];
+    uint64_t place;
+    uint64_t idle; /* whether the thread holds no floor: its next begin shows first that it does */
+    uint64_t apart[5];
     nidzaru_log_operation under_way; /* `end` isn't known yet; NIDZARU_LOG_NOTHING where none is */
 } nidzaru_log_state;
 
@@ -167,7 +185,9 @@ typedef struct nidzaru_log {
     uint64_t reach, ahead; /* the turn before which nobody has to be looked for, and how many it may be ahead */
     struct nidzaru_log *const *beside;
     size_t beside_count;
-    char apart[64]; /* logs that lie side by side share no cache line that their threads store to */
+    uint64_t counted, written, floor;         /* the drains' own: operations that had ended, lines, and below what nothing more begins */
+    uint64_t given_up, last_begin, under_way; /* whether the thread was given up, its last begin, and whether a write is under way */
+    char apart[64];                           /* logs that lie side by side share no cache line that their threads store to */
 } nidzaru_log;
 
 #define NIDZARU_LOG_MAGIC "nidzaru\2"
@@ -192,6 +212,7 @@ NIDZARU_LOG_INLINE void nidzaru_log_begin_block(nidzaru_log *log, void *block, s
     log->state->who = who;
     log->state->room = room;
     log->state->words = NIDZARU_LOG_WORDS;
+    log->state->idle = 1;
     memcpy(log->state->magic, NIDZARU_LOG_MAGIC, sizeof log->state->magic);
 }
 
@@ -308,8 +329,8 @@ NIDZARU_LOG_INLINE uint64_t nidzaru_log_clock(void) {
     return NIDZARU_LOG_CAST(uint64_t, now.tv_sec) * 1000000000u + NIDZARU_LOG_CAST(uint64_t, now.tv_nsec);
 }
 
-/* A moment after the thread's last end. Nothing that follows has been done by it. */
-NIDZARU_LOG_INLINE uint64_t nidzaru_log_stamp_begin(const nidzaru_log *log) {
+/* A moment after the last end. Nothing that follows has been done by it. */
+NIDZARU_LOG_INLINE uint64_t nidzaru_log_stamp_begin(uint64_t last_end) {
     uint64_t now;
     NIDZARU_LOG_ORDER(signal_fence);
     do {
@@ -320,7 +341,7 @@ NIDZARU_LOG_INLINE uint64_t nidzaru_log_stamp_begin(const nidzaru_log *log) {
 #else
         now = nidzaru_log_clock();
 #endif
-    } while (now <= log->last_end);
+    } while (now <= last_end);
 #ifdef __x86_64__
     _mm_lfence();
 #elif NIDZARU_LOG_ARM
@@ -359,6 +380,18 @@ NIDZARU_LOG_INLINE uint64_t nidzaru_log_stamp_end(void) {
     return now;
 }
 
+/* What the thread stored before can be seen by all, with NIDZARU_LOG_FENCE 0 too. */
+NIDZARU_LOG_INLINE void nidzaru_log_show(void) {
+    NIDZARU_LOG_ORDER(signal_fence);
+#if defined(__x86_64__)
+    _mm_mfence();
+#elif NIDZARU_LOG_ARM
+    __asm__ volatile("dsb ish" : : : "memory");
+#else
+    NIDZARU_LOG_ORDER(thread_fence);
+#endif
+}
+
 /* Paces the threads of these logs, none of which has begun: none begins an operation while another one that hasn't left is behind it by so
  * many. With 0 nobody waits. */
 NIDZARU_LOG_INLINE void nidzaru_log_pace(nidzaru_log *const *logs, size_t count, uint64_t ahead) {
@@ -373,8 +406,23 @@ NIDZARU_LOG_INLINE void nidzaru_log_set_turn(nidzaru_log *log, uint64_t turn) {
     __atomic_store_n(&log->state->turn, turn, __ATOMIC_RELAXED);
 }
 
+/* The thread, which is between two operations, may begin none for long. Until it does it doesn't hold the floor. */
+NIDZARU_LOG_INLINE void nidzaru_log_pause(nidzaru_log *log) {
+    __atomic_store_n(&log->state->idle, NIDZARU_LOG_CAST(uint64_t, 1), __ATOMIC_RELEASE);
+}
+
+/* The thread begins again. Whoever still sees it idle has looked at the clock before. */
+NIDZARU_LOG_SELDOM void nidzaru_log_wake(nidzaru_log *log) {
+    __atomic_store_n(&log->state->idle, NIDZARU_LOG_CAST(uint64_t, 0), __ATOMIC_RELAXED);
+    nidzaru_log_show();
+    log->last_end = nidzaru_log_stamp_end();
+}
+
 /* The thread records no more, and nobody waits for it. */
-NIDZARU_LOG_INLINE void nidzaru_log_leave(nidzaru_log *log) { nidzaru_log_set_turn(log, NIDZARU_LOG_LEFT); }
+NIDZARU_LOG_INLINE void nidzaru_log_leave(nidzaru_log *log) {
+    nidzaru_log_set_turn(log, NIDZARU_LOG_LEFT);
+    nidzaru_log_pause(log);
+}
 
 /* The least turn of all logs. */
 NIDZARU_LOG_INLINE uint64_t nidzaru_log_slowest(const nidzaru_log *log) {
@@ -406,13 +454,20 @@ NIDZARU_LOG_INLINE void nidzaru_log_keep_pace(nidzaru_log *log) {
         nidzaru_log_wait(tries);
 }
 
-/* The kind is stored behind all else, so that a thread that is killed leaves a whole operation or none. */
+/* One more, if this holds. Another thread may look. */
+NIDZARU_LOG_INLINE void nidzaru_log_tally(uint64_t *of, int holds) {
+    if (holds) __atomic_store_n(of, *of + 1, __ATOMIC_RELAXED);
+}
+
+/* The kind is stored behind all else, so that a thread that is killed leaves a whole operation or none. Whoever sees the begin sees what
+ * was counted before. */
 NIDZARU_LOG_INLINE void nidzaru_log_begin(nidzaru_log *log, uint64_t kind) {
     nidzaru_log_state *it = log->state;
     nidzaru_log_keep_pace(log);
-    it->unpaired += it->under_way.kind != NIDZARU_LOG_NOTHING;
+    if (it->idle) nidzaru_log_wake(log);
+    nidzaru_log_tally(&it->unpaired, it->under_way.kind != NIDZARU_LOG_NOTHING);
     it->place = it->count;
-    it->under_way.begin = nidzaru_log_stamp_begin(log);
+    __atomic_store_n(&it->under_way.begin, nidzaru_log_stamp_begin(log->last_end), __ATOMIC_RELEASE);
     __atomic_store_n(&it->under_way.kind, kind, __ATOMIC_RELEASE);
 }
 
@@ -421,17 +476,18 @@ NIDZARU_LOG_INLINE void nidzaru_log_rest(nidzaru_log *log) {
     __atomic_store_n(&log->state->under_way.kind, NIDZARU_LOG_CAST(uint64_t, NIDZARU_LOG_NOTHING), __ATOMIC_RELEASE);
     NIDZARU_LOG_ORDER(signal_fence);
     if (log->state->turn != NIDZARU_LOG_LEFT) nidzaru_log_set_turn(log, nidzaru_log_is_full(log) ? NIDZARU_LOG_LEFT : log->state->turn + 1);
+    if (nidzaru_log_is_full(log)) nidzaru_log_pause(log);
 }
 
 /* The count is stored behind the operation, and before nothing is under way. */
 NIDZARU_LOG_INLINE void nidzaru_log_end(nidzaru_log *log, uint64_t began_as, uint64_t kind, uint64_t end,
                                         const nidzaru_log_record *record) {
     nidzaru_log_state *it = log->state;
-    it->unpaired += it->under_way.kind != began_as;
-    it->refused += kind == NIDZARU_LOG_REFUSED;
+    nidzaru_log_tally(&it->unpaired, it->under_way.kind != began_as);
+    nidzaru_log_tally(&it->refused, kind == NIDZARU_LOG_REFUSED);
     log->last_end = end;
     if (it->count == it->room) {
-        it->lost++;
+        nidzaru_log_tally(&it->lost, 1);
     } else {
         nidzaru_log_operation *next = &log->operations[it->count];
         next->kind = kind;
@@ -464,7 +520,7 @@ NIDZARU_LOG_INLINE void nidzaru_log_end_refused(nidzaru_log *log, uint64_t numbe
 
 /* After a write that did nothing, such as a push onto a full queue or a compare-and-set that failed. It is left out of the log. */
 NIDZARU_LOG_INLINE void nidzaru_log_end_no_effect(nidzaru_log *log) {
-    log->state->unpaired += log->state->under_way.kind != NIDZARU_LOG_WRITE;
+    nidzaru_log_tally(&log->state->unpaired, log->state->under_way.kind != NIDZARU_LOG_WRITE);
     nidzaru_log_rest(log);
 }
 
@@ -504,9 +560,9 @@ NIDZARU_LOG_INLINE void nidzaru_log_put_record(FILE *to, const char *key, const 
 #endif
 }
 
-NIDZARU_LOG_INLINE void nidzaru_log_put(FILE *to, const nidzaru_log *log, uint64_t zero) {
+/* Writes the line of an operation of a log. */
+NIDZARU_LOG_INLINE void nidzaru_log_put(FILE *to, const nidzaru_log *log, const nidzaru_log_operation *it, uint64_t zero) {
     static const char *const kinds[] = {"", "write", "read", "refused"};
-    const nidzaru_log_operation *it = nidzaru_log_next(log);
     fprintf(to, "{\"who\":%" PRIu64 ",\"kind\":\"%s\",\"begin\":%" PRIu64 ",\"end\":", log->state->who, kinds[it->kind], it->begin - zero);
     if (it == &log->state->under_way) {
         fputs("null", to);
@@ -520,9 +576,10 @@ NIDZARU_LOG_INLINE void nidzaru_log_put(FILE *to, const nidzaru_log *log, uint64
 /* Why these logs can't be merged, or 0. */
 NIDZARU_LOG_INLINE int nidzaru_log_fault(nidzaru_log *const *logs, size_t count, uint64_t limit) {
     for (size_t at = 0; at < count; at++) {
-        if (logs[at]->state->unpaired) return NIDZARU_LOG_UNPAIRED;
-        if (logs[at]->state->lost) return NIDZARU_LOG_FULL;
-        if (logs[at]->state->refused && !limit) return NIDZARU_LOG_NO_LIMIT;
+        const nidzaru_log_state *it = logs[at]->state;
+        if (__atomic_load_n(&it->unpaired, __ATOMIC_RELAXED)) return NIDZARU_LOG_UNPAIRED;
+        if (__atomic_load_n(&it->lost, __ATOMIC_RELAXED)) return NIDZARU_LOG_FULL;
+        if (__atomic_load_n(&it->refused, __ATOMIC_RELAXED) && !limit) return NIDZARU_LOG_NO_LIMIT;
     }
     return 0;
 }
@@ -539,7 +596,7 @@ NIDZARU_LOG_INLINE void nidzaru_log_header(FILE *to, nidzaru_log_record opening,
 NIDZARU_LOG_INLINE uint64_t nidzaru_log_put_all(FILE *to, nidzaru_log *const *logs, size_t count, uint64_t zero) {
     uint64_t operations = 0;
     for (nidzaru_log *first = nidzaru_log_first(logs, count); first; first = nidzaru_log_first(logs, count)) {
-        nidzaru_log_put(to, first, zero);
+        nidzaru_log_put(to, first, nidzaru_log_next(first), zero);
         first->merged++;
         operations++;
     }
@@ -567,6 +624,127 @@ NIDZARU_LOG_CHECKED int nidzaru_log_merge(FILE *to, nidzaru_log *const *logs, si
     first = nidzaru_log_first(logs, count);
     fprintf(to, "{\"kind\":\"done\",\"ops\":%" PRIu64 "}\n",
             nidzaru_log_put_all(to, logs, count, first ? nidzaru_log_next(first)->begin : 0));
+    return fflush(to) || ferror(to) ? NIDZARU_LOG_STREAM : 0;
+}
+
+/* A thread that never comes back, as its call hangs or it was cancelled, holds the floor no more; the thread that drains says so. The next
+ * drain writes its write without an end. If it begins another operation the drains have a fault. */
+NIDZARU_LOG_INLINE void nidzaru_log_give_up(nidzaru_log *log) {
+    if (log->given_up) return;
+    log->given_up = 1;
+    log->last_begin = __atomic_load_n(&log->state->under_way.begin, __ATOMIC_ACQUIRE);
+}
+
+/* The log whose thread holds the floor, as the last drain found it. There is at least one log. */
+NIDZARU_LOG_INLINE nidzaru_log *nidzaru_log_holder(nidzaru_log *const *logs, size_t count) {
+    nidzaru_log *holder = logs[0];
+    for (size_t at = 1; at < count; at++) {
+        if (logs[at]->floor < holder->floor) holder = logs[at];
+    }
+    return holder;
+}
+
+/* Looks what a thread has ended, and below which moment it begins nothing more. Idle, it begins after now; under way, at that begin; else
+ * after its last end. The count is looked at last: what isn't counted hadn't begun before the begin that was seen, or is that. */
+NIDZARU_LOG_INLINE void nidzaru_log_look(nidzaru_log *log, uint64_t now) {
+    uint64_t idle = __atomic_load_n(&log->state->idle, __ATOMIC_ACQUIRE);
+    uint64_t floor = __atomic_load_n(&log->state->under_way.begin, __ATOMIC_ACQUIRE);
+    int writes = __atomic_load_n(&log->state->under_way.kind, __ATOMIC_ACQUIRE) == NIDZARU_LOG_WRITE;
+    log->counted = __atomic_load_n(&log->state->count, __ATOMIC_ACQUIRE);
+    log->under_way = writes && log->given_up == 1 && log->state->place == log->counted;
+    if (log->counted && floor <= log->operations[log->counted - 1].end) floor = log->operations[log->counted - 1].end + 1;
+    if (idle || log->given_up) floor = now;
+    if (floor > log->floor) log->floor = floor;
+}
+
+/* Whether a thread that was given up began another operation. */
+NIDZARU_LOG_INLINE int nidzaru_log_came_back(const nidzaru_log *log) {
+    return log->given_up && __atomic_load_n(&log->state->under_way.begin, __ATOMIC_ACQUIRE) != log->last_begin;
+}
+
+/* Looks at all threads. Answers why nothing more can be written, or 0. A fault stands behind no floor that was seen. */
+NIDZARU_LOG_INLINE int nidzaru_log_look_at_all(nidzaru_log *const *logs, size_t count) {
+    uint64_t now = nidzaru_log_stamp_begin(0);
+    for (size_t at = 0; at < count; at++) nidzaru_log_look(logs[at], now);
+    for (size_t at = 0; at < count; at++) {
+        if (nidzaru_log_came_back(logs[at])) return NIDZARU_LOG_CAME_BACK;
+    }
+    return nidzaru_log_fault(logs, count, 0);
+}
+
+/* The next operation to be drained, or nothing: behind those that ended a write that is given up. If that ends after all it is left out. */
+NIDZARU_LOG_INLINE const nidzaru_log_operation *nidzaru_log_next_drained(nidzaru_log *log) {
+    const nidzaru_log_operation *next = &log->operations[log->merged];
+    if (log->merged < log->counted && log->given_up > 1 && next->begin == log->last_begin) next = &log->operations[++log->merged];
+    if (log->merged < log->counted) return next;
+    return log->under_way ? &log->state->under_way : NULL;
+}
+
+/* The log whose next operation to be drained began first, or nothing. */
+NIDZARU_LOG_INLINE nidzaru_log *nidzaru_log_first_drained(nidzaru_log *const *logs, size_t count) {
+    nidzaru_log *first = NULL;
+    for (size_t at = 0; at < count; at++) {
+        const nidzaru_log_operation *next = nidzaru_log_next_drained(logs[at]);
+        if (next && (!first || next->begin < nidzaru_log_next_drained(first)->begin)) first = logs[at];
+    }
+    return first;
+}
+
+/* Writes the next line of a log. */
+NIDZARU_LOG_INLINE void nidzaru_log_put_drained(FILE *to, nidzaru_log *log) {
+    nidzaru_log_put(to, log, nidzaru_log_next_drained(log), 0);
+    log->written++;
+    if (log->merged < log->counted) {
+        log->merged++;
+    } else {
+        log->under_way = 0;
+    }
+}
+
+/* Writes a floor that this thread holds, if it has risen. Answers the highest. */
+NIDZARU_LOG_INLINE uint64_t nidzaru_log_put_floor(FILE *to, uint64_t before, uint64_t floor, const nidzaru_log *holder) {
+    if (floor <= before) return before;
+    fprintf(to, "{\"kind\":\"floor\",\"begin\":%" PRIu64 ",\"who\":%" PRIu64 "}\n", floor, holder->state->who);
+    return floor;
+}
+
+/* Writes by beginning what all threads have ended, and floors from this one on: one at most every 16 lines, since a judge's time grows with
+ * what lies between two, and the one that holds for all that is to come. */
+NIDZARU_LOG_INLINE void nidzaru_log_put_counted(FILE *to, nidzaru_log *const *logs, size_t count, uint64_t floor) {
+    const nidzaru_log *holder = nidzaru_log_holder(logs, count);
+    unsigned lines = 0;
+    for (nidzaru_log *first = nidzaru_log_first_drained(logs, count); first; first = nidzaru_log_first_drained(logs, count)) {
+        uint64_t begin = nidzaru_log_next_drained(first)->begin;
+        if (lines++ % 16 == 15 && begin < holder->floor) floor = nidzaru_log_put_floor(to, floor, begin, first);
+        nidzaru_log_put_drained(to, first);
+    }
+    nidzaru_log_put_floor(to, floor, holder->floor, holder);
+    for (size_t at = 0; at < count; at++) logs[at]->given_up += logs[at]->given_up == 1;
+}
+
+/* Writes what all threads have ended since the last drain, and floors; times are the clock's own. One thread at a time drains, while others
+ * record: no thread waits. The header stands before. After a fault the last line is of kind `fault`. */
+NIDZARU_LOG_CHECKED int nidzaru_log_drain(FILE *to, nidzaru_log *const *logs, size_t count) {
+    uint64_t before = count ? nidzaru_log_holder(logs, count)->floor : 0;
+    int fault = nidzaru_log_look_at_all(logs, count);
+    if (fault) {
+        fputs("{\"kind\":\"fault\"}\n", to);
+    } else if (count) {
+        nidzaru_log_put_counted(to, logs, count, before);
+    }
+    if (fflush(to) || ferror(to)) return NIDZARU_LOG_STREAM;
+    return fault;
+}
+
+/* Writes what is left, the writes that are under way without an end, and the number of all lines. */
+NIDZARU_LOG_CHECKED int nidzaru_log_finish(FILE *to, nidzaru_log *const *logs, size_t count) {
+    uint64_t operations = 0;
+    int fault;
+    for (size_t at = 0; at < count; at++) nidzaru_log_give_up(logs[at]);
+    fault = nidzaru_log_drain(to, logs, count);
+    if (fault) return fault;
+    for (size_t at = 0; at < count; at++) operations += logs[at]->written;
+    fprintf(to, "{\"kind\":\"done\",\"ops\":%" PRIu64 "}\n", operations);
     return fflush(to) || ferror(to) ? NIDZARU_LOG_STREAM : 0;
 }
 

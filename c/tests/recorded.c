@@ -1,11 +1,19 @@
 /* Registers that three threads use, right ones and wrong ones, recorded as JSON Lines on standard output.
- * usage: recorded REGISTER OPERATIONS. With -DLIBRARY, and linked with it, also the library's own registers and boards.
+ * usage: recorded REGISTER OPERATIONS [WAY MERGED]. With -DLIBRARY, and linked with it, also the library's own registers and boards.
+ *
+ * A WAY writes lines and floors while the threads run, and the whole log into the file MERGED. If the reader of the lines leaves while they
+ * run they stop, and the status is 4:
+ *   live     as fast as they can within 200 operations of each other
+ *   slow     with a pause before each operation
+ *   hang     the same, and the first thread's 500th operation, a write, takes effect and doesn't return; that is told on standard error,
+ *            and the thread is given up. At the end the call returns after all, and the thread does nothing more
  *
  * The wrong ones linger now and then where they are wrong, until others have fetched, so that a short log shows it; and readers keep pace
  * with writers. With -DALONE nobody waits. */
 #include "nidzaru_log.h"
 #include <pthread.h>
 #include <sched.h>
+#include <signal.h>
 #include <stdatomic.h>
 #ifdef LIBRARY
 #include "nidzaru.h"
@@ -14,7 +22,7 @@
 #define ALONE 0
 #endif
 
-enum { WORDS = 8, TASKS = 3, GREATEST_PLACE = 63 };
+enum { WORDS = 8, TASKS = 3, GREATEST_PLACE = 63, HANGS_AT = 500, LONG = 200 };
 
 struct item { uint64_t words[WORDS]; };
 
@@ -240,8 +248,25 @@ static const struct {
 };
 
 static size_t chosen;
+static const char *way = "";
 static nidzaru_log logs[TASKS];
 static pthread_barrier_t start;
+
+/* Whether threads are to stop, whether a call that hangs may return, and how many threads have ended. */
+static atomic_int stopped, released, ended;
+
+static void sleep_a_little(void) {
+    struct timespec while_ = {0, 50000};
+    nanosleep(&while_, 0);
+}
+
+static void hang(void) {
+    atomic_fetch_sub(&writing, 1);
+    while (!atomic_load(&released)) sleep_a_little();
+    atomic_fetch_add(&writing, 1);
+}
+
+static int hangs(uint64_t number) { return !strcmp(way, "hang") && number == HANGS_AT * TASKS; }
 
 static void write_once(int me, uint64_t number) {
     struct item item = item_of(number);
@@ -249,6 +274,7 @@ static void write_once(int me, uint64_t number) {
     atomic_fetch_add(&writes, 1);
     nidzaru_log_begin_write(&logs[me], number, &item, sizeof item);
     registers[chosen].write(me, &item);
+    if (hangs(number)) hang();
     nidzaru_log_end_write(&logs[me]);
 }
 
@@ -263,24 +289,64 @@ static void read_once(int me) {
 static void *run(void *log) {
     int me = (int)((nidzaru_log *)log - logs), writers = registers[chosen].writers;
     pthread_barrier_wait(&start);
-    for (uint64_t turn = 1; !nidzaru_log_is_full(&logs[me]); turn++) {
+    for (uint64_t turn = 1; !nidzaru_log_is_full(&logs[me]) && !atomic_load(&stopped); turn++) {
+        if (*way && strcmp(way, "live")) sleep_a_little();
         if (me >= writers || (writers > 1 && turn % 2)) {
             read_once(me);
-            if (me >= writers) keep_pace(turn);
+            if (me >= writers && strcmp(way, "live")) keep_pace(turn);
         } else {
             write_once(me, turn * TASKS + (uint64_t)me);
+            if (hangs(turn * TASKS + (uint64_t)me)) break;
         }
     }
     atomic_fetch_sub(me < writers ? &writing : &fetching, 1);
+    nidzaru_log_leave(&logs[me]);
+    atomic_fetch_add(&ended, 1);
     return 0;
 }
 
+/* Tells whose call holds the floor for long, and gives it up after as long again. */
+static void tell_held(nidzaru_log *const *all, size_t tasks) {
+    static uint64_t floor, drains;
+    nidzaru_log *holder = nidzaru_log_holder(all, tasks);
+    drains = floor == holder->floor ? drains + 1 : 0;
+    floor = holder->floor;
+    if (drains == LONG) fprintf(stderr, "task %" PRIu64 " holds the floor at %" PRIu64 "\n", holder->state->who, floor);
+    if (drains == 2 * LONG) nidzaru_log_give_up(holder);
+}
+
+/* Writes lines and floors until all threads have ended, but for one that hangs. Answers the status of the last drain. */
+static int drain_all(nidzaru_log *const *all, int tasks, nidzaru_log_record opening) {
+    int status = 0, awaited = strcmp(way, "hang") ? tasks : tasks - 1;
+    signal(SIGPIPE, SIG_IGN);
+    nidzaru_log_header(stdout, opening, 0);
+    while (!status && atomic_load(&ended) < awaited) {
+        status = nidzaru_log_drain(stdout, all, (size_t)tasks);
+        if (awaited < tasks) tell_held(all, (size_t)tasks);
+        sleep_a_little();
+    }
+    if (status && atomic_load(&ended) < awaited) {
+        atomic_store(&stopped, 1);
+        return status;
+    }
+    return status ? status : nidzaru_log_finish(stdout, all, (size_t)tasks);
+}
+
+/* Writes the whole log into a file. */
+static int merge_into(const char *path, nidzaru_log *const *all, int tasks, nidzaru_log_record opening) {
+    FILE *to = fopen(path, "w");
+    int status = to ? nidzaru_log_merge(to, all, (size_t)tasks, opening, 0) : NIDZARU_LOG_NO_FILE;
+    if (to) fclose(to);
+    return status;
+}
+
 /* Runs the chosen register, and writes the log. Answers the status of the merge. */
-static int record(size_t room) {
+static int record(size_t room, const char *merged) {
     struct item opening = item_of(0);
+    nidzaru_log_record held = nidzaru_log_record_of(0, &opening, sizeof opening);
     pthread_t threads[TASKS];
     nidzaru_log *all[TASKS];
-    int tasks = registers[chosen].tasks, writers = registers[chosen].writers;
+    int tasks = registers[chosen].tasks, writers = registers[chosen].writers, status = 0;
     atomic_store(&writing, (unsigned long long)writers);
     atomic_store(&fetching, (unsigned long long)(tasks - writers));
     for (int k = 0; k < tasks; k++) {
@@ -291,19 +357,25 @@ static int record(size_t room) {
 #ifdef LIBRARY
     make_all(&opening);
 #endif
+    if (!strcmp(way, "live")) nidzaru_log_pace(all, (size_t)tasks, 200);
     pthread_barrier_init(&start, 0, (unsigned)tasks);
     for (int k = 0; k < tasks; k++) pthread_create(&threads[k], 0, run, all[k]);
+    if (*way) status = drain_all(all, tasks, held);
+    atomic_store(&released, 1);
     for (int k = 0; k < tasks; k++) pthread_join(threads[k], 0);
-    return nidzaru_log_merge(stdout, all, (size_t)tasks, nidzaru_log_record_of(0, &opening, sizeof opening), 0);
+    if (atomic_load(&stopped)) return status == NIDZARU_LOG_STREAM ? 4 : 3;
+    if (*way) return status ? status : merge_into(merged, all, tasks, held);
+    return nidzaru_log_merge(stdout, all, (size_t)tasks, held, 0);
 }
 
 int main(int count, char **words) {
-    for (chosen = 0; count == 3 && chosen < sizeof registers / sizeof *registers; chosen++) {
+    if (count == 5) way = words[3];
+    for (chosen = 0; (count == 3 || count == 5) && chosen < sizeof registers / sizeof *registers; chosen++) {
         if (!strcmp(words[1], registers[chosen].name)) {
-            return record((size_t)strtoul(words[2], 0, 10) / (size_t)registers[chosen].tasks);
+            return record((size_t)strtoul(words[2], 0, 10) / (size_t)registers[chosen].tasks, words[count - 1]);
         }
     }
-    fputs("usage: recorded REGISTER OPERATIONS, where REGISTER is one of", stderr);
+    fputs("usage: recorded REGISTER OPERATIONS [WAY MERGED], where REGISTER is one of", stderr);
     for (chosen = 0; chosen < sizeof registers / sizeof *registers; chosen++) fprintf(stderr, " %s", registers[chosen].name);
     fputs("\n", stderr);
     return 2;

@@ -33,14 +33,25 @@ static void close_both(void) {
     check(!one.state && !two.state, "a closed log has no memory");
 }
 
+enum { MERGE, LINES, DRAIN, FINISH };
+
+static int put_into(FILE *to, int what, uint64_t limit) {
+    nidzaru_log_record held = nidzaru_log_record_of(opening[0], opening, sizeof opening);
+    switch (what) {
+    case LINES: return nidzaru_log_lines(to, logs, 2);
+    case DRAIN: return nidzaru_log_drain(to, logs, 2);
+    case FINISH: return nidzaru_log_finish(to, logs, 2);
+    default: return nidzaru_log_merge(to, logs, 2, held, limit);
+    }
+}
+
 /* What is written stands in `text`; answers the status. */
-static int put(int lines, uint64_t limit) {
+static int put(int what, uint64_t limit) {
     FILE *to = tmpfile();
     size_t size;
     int status;
-    nidzaru_log_record held = nidzaru_log_record_of(opening[0], opening, sizeof opening);
     check(to != NULL, "a file for the text");
-    status = lines ? nidzaru_log_lines(to, logs, 2) : nidzaru_log_merge(to, logs, 2, held, limit);
+    status = put_into(to, what, limit);
     rewind(to);
     size = fread(text, 1, sizeof text - 1, to);
     text[size] = 0;
@@ -48,7 +59,7 @@ static int put(int lines, uint64_t limit) {
     return status;
 }
 
-static int merge(uint64_t limit) { return put(0, limit); }
+static int merge(uint64_t limit) { return put(MERGE, limit); }
 
 static void write_one(nidzaru_log *log, const uint64_t *item) {
     nidzaru_log_begin_write(log, item[0], item, 2 * sizeof *item);
@@ -94,7 +105,7 @@ static void check_text(void) {
               "the lines by beginning: an unfinished write is there, an unfinished read isn't");
         check(!strncmp(text, "{\"kind\":\"lines\",\"opening\":[0,", 29) && strstr(text, "]" KEPT(0, 7) ",\"limit\":4}\n"), "the header");
     }
-    check(put(1, 0) == 0 && !strcmp(text,
+    check(put(LINES, 0) == 0 && !strcmp(text,
                                     "{\"who\":5,\"kind\":\"read\",\"begin\":100,\"end\":103,\"record\":[0,9]" KEPT(0, 7) "}\n"
                                     "{\"who\":3,\"kind\":\"write\",\"begin\":102,\"end\":109,\"record\":[1,9]" KEPT(1, 7) "}\n"
                                     "{\"who\":5,\"kind\":\"refused\",\"begin\":105,\"end\":106,\"record\":[1,9]" KEPT(1, 7) "}\n"
@@ -102,7 +113,7 @@ static void check_text(void) {
           "the lines alone, with the clock's own times");
     close_both();
     open_both(0);
-    check(put(1, 0) == 0 && !text[0], "no lines");
+    check(put(LINES, 0) == 0 && !text[0], "no lines");
     check(merge(0) == 0 && !strcmp(strchr(text, '\n'), "\n{\"kind\":\"done\",\"ops\":0}\n"), "logs without operations");
     close_both();
 }
@@ -122,7 +133,7 @@ static void check_no_effect(void) {
     open_both(4);
     nidzaru_log_begin_read(&one);
     nidzaru_log_end_no_effect(&one);
-    check(merge(0) == NIDZARU_LOG_UNPAIRED && put(1, 0) == NIDZARU_LOG_UNPAIRED && !text[0], "a read that ends without an effect");
+    check(merge(0) == NIDZARU_LOG_UNPAIRED && put(LINES, 0) == NIDZARU_LOG_UNPAIRED && !text[0], "a read that ends without an effect");
     close_both();
 }
 
@@ -133,7 +144,7 @@ static void check_full(void) {
     check(nidzaru_log_is_full(&one) && merge(0) == 0, "a log that is full has lost nothing");
     read_one(&one, first);
     check(merge(0) == NIDZARU_LOG_FULL && !text[0], "a log that lost an operation isn't merged");
-    check(put(1, 0) == NIDZARU_LOG_FULL && !text[0], "nor written as lines");
+    check(put(LINES, 0) == NIDZARU_LOG_FULL && !text[0], "nor written as lines");
     close_both();
     check(nidzaru_log_open(&one, 0, SIZE_MAX / 2) == NIDZARU_LOG_NO_MEMORY, "room that there isn't");
 }
@@ -210,6 +221,215 @@ static void check_words(void) {
 #endif
 }
 
+/* The text of a drain of many lines. */
+static char many[40000];
+static int put_many(void) {
+    FILE *to = tmpfile();
+    int status = to ? nidzaru_log_drain(to, logs, 2) : -1;
+    check(to != NULL, "a file for many lines");
+    rewind(to);
+    many[fread(many, 1, sizeof many - 1, to)] = 0;
+    fclose(to);
+    return status;
+}
+
+/* The next drain writes this, and nothing else. */
+static void check_drain(const char *what, const char *wanted) {
+    int status = put(DRAIN, 0);
+    check(status == 0 && !strcmp(text, wanted), what);
+    if (strcmp(text, wanted)) printf("%d: %s", status, text);
+}
+
+/* The next drain writes these lines, and behind them one floor, which is answered: the present, which thread 3 is said to hold. */
+static uint64_t check_present(const char *what, const char *wanted) {
+    uint64_t before = nidzaru_log_stamp_begin(0), floor = 0;
+    int whole = 0, status = put(DRAIN, 0);
+    size_t length = strlen(wanted);
+    check(status == 0 && !strncmp(text, wanted, length), what);
+    check(sscanf(text + length, "{\"kind\":\"floor\",\"begin\":%" SCNu64 ",\"who\":3}\n%n", &floor, &whole) == 1 && whole > 0 &&
+              !text[length + NIDZARU_LOG_CAST(size_t, whole)] && before <= floor && floor <= nidzaru_log_stamp_end(),
+          what);
+    return floor;
+}
+
+#define FLOOR(begin, who) "{\"kind\":\"floor\",\"begin\":" #begin ",\"who\":" #who "}\n"
+#define WROTE(who, times, number) "{\"who\":" #who ",\"kind\":\"write\"," times ",\"record\":[" #number ",9]" KEPT(number, 7) "}\n"
+#define READ(who, times, number) "{\"who\":" #who ",\"kind\":\"read\"," times ",\"record\":[" #number ",9]" KEPT(number, 7) "}\n"
+#define TIMES(begin, end) "\"begin\":" #begin ",\"end\":" #end
+
+/* The begin of what is under way, as `set_times` sets those that ended. */
+static void set_begin(nidzaru_log *log, uint64_t begin) {
+    log->state->under_way.begin = begin;
+    log->state->under_way.record.hash = 9;
+}
+
+/* Two threads that have ended an operation each, at 109 and 103. */
+static void begin_both(void) {
+    open_both(4);
+    write_one(&one, first);
+    read_one(&two, opening);
+    set_times(&one, 0, 102, 109);
+    set_times(&two, 0, 100, 103);
+    set_begin(&one, 102);
+    set_begin(&two, 100);
+}
+
+/* A floor is the least begin of what is under way, else behind the last end. Lines are written once. */
+static void check_floors(void) {
+    uint64_t floor;
+    char again[80];
+    begin_both();
+    check_drain("what had ended, and the last end that is least",
+                READ(5, TIMES(100, 103), 0) WROTE(3, TIMES(102, 109), 1) FLOOR(104, 5));
+    check(nidzaru_log_holder(logs, 2) == &two, "the thread that holds the floor");
+    check_drain("nothing new", "");
+    nidzaru_log_begin_write(&one, second[0], second, sizeof second);
+    set_begin(&one, 120);
+    nidzaru_log_begin_read(&two);
+    set_begin(&two, 150);
+    check_drain("a write that is under way", FLOOR(120, 3));
+    nidzaru_log_end_read(&two, opening[0], opening, sizeof opening);
+    set_times(&two, 1, 150, 160);
+    check_drain("a write that hangs holds the floor", READ(5, TIMES(150, 160), 0));
+    check(nidzaru_log_holder(logs, 2) == &one, "the thread whose call hangs");
+    nidzaru_log_give_up(&one);
+    check_drain("a write that is given up", WROTE(3, TIMES(120, null), 2) FLOOR(161, 5));
+    nidzaru_log_pause(&two);
+    floor = check_present("a thread that pauses", "");
+    nidzaru_log_wake(&two);
+    check(put(DRAIN, 0) == 0 && two.floor >= floor, "a thread that is about to begin doesn't lower the floor");
+    nidzaru_log_begin_read(&two);
+    check(two.state->under_way.begin > floor, "a thread that begins again begins above the floor");
+    snprintf(again, sizeof again, "{\"kind\":\"floor\",\"begin\":%" PRIu64 ",\"who\":5}\n", two.state->under_way.begin);
+    check_drain("a thread that begins again holds the floor at its begin", again);
+    nidzaru_log_end_read(&two, opening[0], opening, sizeof opening);
+    check(put(FINISH, 0) == 0 && strstr(text, "{\"who\":5,\"kind\":\"read\",") == text && strstr(text, "\n{\"kind\":\"done\",\"ops\":5}\n"),
+          "the last lines, and how many there are");
+    check(merge(0) == 0 && strstr(text, "{\"kind\":\"done\",\"ops\":5}\n"), "a merge of what was drained");
+    close_both();
+}
+
+/* Threads that haven't begun, are full or have left hold no floor. */
+static void check_idle(void) {
+    uint64_t floor;
+    open_both(1);
+    floor = check_present("threads that haven't begun", "");
+    write_one(&one, first);
+    check(one.operations[0].begin > floor, "a thread begins above the floor");
+    one.operations[0].record.hash = 9;
+    set_times(&one, 0, 102, 109);
+    check_present("a thread whose log is full, and one that hasn't begun", WROTE(3, TIMES(102, 109), 1));
+    nidzaru_log_begin_write(&one, second[0], second, sizeof second);
+    set_begin(&one, UINT64_MAX / 2);
+    nidzaru_log_end_no_effect(&one);
+    check_present("a full log whose thread wrote without an effect", "");
+    close_both();
+    begin_both();
+    nidzaru_log_leave(&two);
+    set_times(&two, 0, 100, 120);
+    check_drain("a thread that left", READ(5, TIMES(100, 120), 0) WROTE(3, TIMES(102, 109), 1) FLOOR(110, 3));
+    nidzaru_log_leave(&one);
+    check_present("threads that left", "");
+    check(put(FINISH, 0) == 0 && strstr(text, "{\"kind\":\"done\",\"ops\":2}\n"), "the number of lines of threads that left");
+    close_both();
+    begin_both();
+    nidzaru_log_begin_write(&one, second[0], second, sizeof second);
+    set_begin(&one, 120);
+    check(put(FINISH, 0) == 0 && strstr(text, WROTE(3, TIMES(120, null), 2)) && strstr(text, "{\"kind\":\"done\",\"ops\":3}\n"),
+          "a write that is under way at the end");
+    close_both();
+}
+
+/* What was given up is written once, if it ends as well; a read isn't. A thread that goes on is a fault. */
+static void check_given_up(void) {
+    begin_both();
+    nidzaru_log_begin_write(&one, second[0], second, sizeof second);
+    set_begin(&one, 120);
+    nidzaru_log_begin_read(&two);
+    set_begin(&two, 130);
+    nidzaru_log_give_up(&one);
+    nidzaru_log_give_up(&two);
+    check_present("two that are given up", READ(5, TIMES(100, 103), 0) WROTE(3, TIMES(102, 109), 1) WROTE(3, TIMES(120, null), 2));
+    nidzaru_log_end_write(&one);
+    nidzaru_log_end_read(&two, opening[0], opening, sizeof opening);
+    nidzaru_log_give_up(&one);
+    check_present("two that end after all", "");
+    check(put(FINISH, 0) == 0 && strstr(text, "{\"kind\":\"done\",\"ops\":3}\n"), "the number of lines of those that were given up");
+    close_both();
+    begin_both();
+    nidzaru_log_begin_write(&one, second[0], second, sizeof second);
+    set_begin(&one, 120);
+    nidzaru_log_give_up(&one);
+    nidzaru_log_end_write(&one);
+    set_times(&one, 1, 120, 125);
+    one.state->under_way.kind = NIDZARU_LOG_WRITE; /* (as between the two stores of its end) */
+    check_drain("one that ends before the drain", READ(5, TIMES(100, 103), 0) WROTE(3, TIMES(102, 109), 1) WROTE(3, TIMES(120, 125), 2) FLOOR(104, 5));
+    one.state->under_way.kind = NIDZARU_LOG_NOTHING;
+    nidzaru_log_begin_read(&one);
+    check(put(DRAIN, 0) == NIDZARU_LOG_CAME_BACK && !strcmp(text, "{\"kind\":\"fault\"}\n"), "a thread that was given up and goes on");
+    check(put(FINISH, 0) == NIDZARU_LOG_CAME_BACK && !strcmp(text, "{\"kind\":\"fault\"}\n"), "nothing is finished then");
+    close_both();
+}
+
+/* With a fault nothing is written but that. */
+static void check_faults(void) {
+    open_both(1);
+    write_one(&one, first);
+    read_one(&one, first);
+    check(put(DRAIN, 0) == NIDZARU_LOG_FULL && !strcmp(text, "{\"kind\":\"fault\"}\n"), "a log that lost an operation");
+    close_both();
+    open_both(1);
+    nidzaru_log_begin_write(&one, second[0], second, sizeof second);
+    nidzaru_log_end_refused(&one, first[0], first, sizeof first);
+    check(put(FINISH, 0) == NIDZARU_LOG_NO_LIMIT && !strcmp(text, "{\"kind\":\"fault\"}\n"), "a refused write has no line");
+    close_both();
+    open_both(1);
+    nidzaru_log_end_write(&two);
+    check(put(DRAIN, 0) == NIDZARU_LOG_UNPAIRED && !strcmp(text, "{\"kind\":\"fault\"}\n"), "an end without a begin");
+    close_both();
+}
+
+/* Many lines have floors between them: each behind 15 or 16 lines, and the begin of the next. */
+static void check_many(void) {
+    enum { MANY = 40 };
+    static const size_t places[] = {15, 31};
+    char *line, floor[80];
+    size_t at = 0, found = 0;
+    open_both(MANY + 1);
+    for (int k = 0; k < MANY; k++) read_one(&one, opening);
+    nidzaru_log_pause(&one);
+    check(put_many() == 0, "a drain of many");
+    for (line = strtok(many, "\n"); line && at < MANY; line = strtok(NULL, "\n"), at++) {
+        if (found < 2 && at == places[found]) {
+            snprintf(floor, sizeof floor, "{\"kind\":\"floor\",\"begin\":%" PRIu64 ",\"who\":3}", one.operations[at].begin);
+            check(!strcmp(line, floor), "a floor between lines");
+            line = strtok(NULL, "\n");
+            found++;
+        }
+        check(line && strstr(line, "\"read\""), "a line between floors");
+    }
+    check(found == 2 && line && strstr(line, "floor") && !strtok(NULL, "\n"), "the last floor");
+    close_both();
+    begin_both();
+    nidzaru_log_begin_write(&one, second[0], second, sizeof second);
+    set_begin(&one, 120);
+    check(put_many() == 0 && two.floor == 104, "a floor to begin with");
+    for (int k = 0; k < 3; k++) read_one(&two, opening);
+    set_times(&two, 1, 121, 122);
+    set_times(&two, 2, 123, 124);
+    set_times(&two, 3, 125, 126);
+    check_drain("lines by beginning, above a write that is under way",
+                READ(5, TIMES(121, 122), 0) READ(5, TIMES(123, 124), 0) READ(5, TIMES(125, 126), 0) FLOOR(120, 3));
+    close_both();
+}
+
+static void check_no_logs(void) {
+    FILE *to = tmpfile();
+    check(to && nidzaru_log_drain(to, logs, 0) == 0 && ftell(to) == 0, "a drain of no logs");
+    check(to && nidzaru_log_finish(to, logs, 0) == 0 && ftell(to) == 24, "the end of no logs");
+    if (to) fclose(to);
+}
+
 static void check_pace(void) {
     open_both(2);
     nidzaru_log_pace(logs, 2, 9);
@@ -227,6 +447,12 @@ static void check_stream(void) {
     full = fopen("/dev/full", "w");
     check(full && nidzaru_log_lines(full, logs, 2) == NIDZARU_LOG_STREAM, "lines onto a full disk");
     if (full) fclose(full);
+    for (int again = 0; again < 2; again++) {
+        full = fopen("/dev/full", "w");
+        one.merged = 0;
+        check(full && put_into(full, again ? FINISH : DRAIN, 0) == NIDZARU_LOG_STREAM, "a drain onto a full disk");
+        if (full) fclose(full);
+    }
     close_both();
 }
 
@@ -271,7 +497,7 @@ static void check_files(const char *path) {
     mapped = one.state;
     nidzaru_log_close(&one);
     check(msync(mapped, 1, MS_ASYNC) != 0, "a log that was closed has no place in memory");
-    check(nidzaru_log_open_left(&one, path) == 0 && put(1, 0) == 0, "what is left");
+    check(nidzaru_log_open_left(&one, path) == 0 && put(LINES, 0) == 0, "what is left");
     check(!strncmp(text, "{\"who\":3,\"kind\":\"write\",", 24) && strstr(text, "\"end\":null,\"record\":[2,"),
           "a write that ended and one that didn't");
     check(strstr(text, "]" KEPT(1, 7) "}\n") && strstr(text, "]" KEPT(2, 7) "}\n"), "their words are left too");
@@ -314,6 +540,12 @@ int main(int count, char **words) {
     check_no_effect();
     check_full();
     check_pairs();
+    check_floors();
+    check_idle();
+    check_given_up();
+    check_faults();
+    check_many();
+    check_no_logs();
     check_times();
     check_records();
     check_words();

@@ -103,6 +103,11 @@ static void yield(void) {
 #else
 #define BEGIN "scls"
 #endif
+#if defined(__x86_64__)
+#define SHOW "sm"
+#else
+#define SHOW "sf"
+#endif
 #if !NIDZARU_LOG_FENCE
 #if NIDZARU_LOG_TSC
 #define END "ses"
@@ -149,9 +154,12 @@ static void check_lines(const char *what, const char *wanted) {
     done[0] = 0;
 }
 
+/* The log of a thread that has begun. */
 static void open_log(size_t room) {
     ticks = 1000000000000u;
     check(nidzaru_log_open(&log_of_one, 3, room) == 0, "a log is opened");
+    nidzaru_log_wake(&log_of_one);
+    log_of_one.last_end = 0;
     done[0] = 0;
 }
 
@@ -197,12 +205,29 @@ static void check_standing(void) {
     nidzaru_log_close(&log_of_one);
 }
 
+/* A thread that was idle shows before its begin's stamp that it isn't, with a full fence and an end's stamp, above which it begins. */
+static void check_wake(void) {
+    uint64_t shown;
+    open_log(4);
+    nidzaru_log_pause(&log_of_one);
+    nidzaru_log_begin_read(&log_of_one);
+    note('!');
+    nidzaru_log_end_read(&log_of_one, 1, item, 8);
+    check_done("a thread that begins again", SHOW END, BEGIN, "!", END "hs");
+    nidzaru_log_pause(&log_of_one);
+    shown = ticks + 7;
+    still = 0;
+    nidzaru_log_wake(&log_of_one);
+    check(log_of_one.last_end == shown && !log_of_one.state->idle, "a begin behind the moment at which the thread is seen");
+    nidzaru_log_close(&log_of_one);
+}
+
 /* By the clock moments are nanoseconds, also where the second changes. */
 static void check_seconds(void) {
     uint64_t begin;
     open_log(4);
     ticks = 1999999999990u;
-    begin = nidzaru_log_stamp_begin(&log_of_one);
+    begin = nidzaru_log_stamp_begin(0);
     check(begin == 1999999999997u && nidzaru_log_stamp_end() == 2000000000004u, "moments on both sides of a second");
     nidzaru_log_close(&log_of_one);
 }
@@ -253,6 +278,7 @@ static void check_waits(const char *what, const char *wanted) {
 static void open_both(size_t room, size_t others, uint64_t ahead) {
     open_log(room);
     check(nidzaru_log_open(&other, 4, others) == 0, "another log is opened");
+    done[0] = 0;
     nidzaru_log_pace(both, 2, ahead);
 }
 
@@ -288,6 +314,7 @@ int main(void) {
     check_write();
     check_read();
     check_standing();
+    check_wake();
     check_seconds();
     check_memory();
     check_pace();

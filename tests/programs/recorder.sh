@@ -21,6 +21,15 @@ for program in crates/fsr_order/out/fsr_order 'crates/fsr/out/fsr order'; do
     fi
 done
 
+# The built program that watches, likewise.
+watching=
+for program in crates/fsr_watch/out/fsr_watch 'crates/fsr/out/fsr watch'; do
+    if [ -x "${program%% *}" ] && printf '{"kind":"lines","opening":0}\n{"kind":"floor","begin":7}\n' | $program >"$room/tried" 2>/dev/null \
+        && grep -qx lawful "$room/tried"; then
+        watching=$program
+    fi
+done
+
 # Judges a log: the first line says what is wanted, by each judge, and its status fits.
 judges() {
     title=$1 wanted=$2 wanted_status=$3
@@ -99,6 +108,105 @@ needs_fence() {
     esac
 }
 
+# Watches what is in a file: the first line says this, its status fits, and of a lawful log the counts are these.
+#   is_watched TITLE WANTED STATUS FILE [COUNTS]
+is_watched() {
+    $watching <"$4" >"$room/said" 2>"$room/err"
+    status=$?
+    if [ "$status" = "$3" ] && cat "$room/said" "$room/err" | head -n 1 | grep -qE "$2" && grep -qE "${5-}" "$room/said" "$room/err"; then
+        pass "$1"
+    else
+        fail "$1" "status $status: $(cat "$room/said" "$room/err" | head -c 300 | tr '\n' ' ')"
+    fi
+}
+
+# A right register whose lines and floors are watched while its threads run; then the stream is looked at, and judged without its floors.
+#   is_live NAME OPERATIONS COUNT WORDS OF floors.py.. -- PROGRAM WORDS..
+is_live() {
+    live=$1 wanted="^$2 operations, $3 unfinished, 0 uncertain, [0-9]+ floors\$"
+    shift 3
+    compared=
+    while [ "$1" != -- ]; do compared="$compared $1" && shift; done
+    shift
+    rm -f "$room/pipe" && mkfifo "$room/pipe" || return
+    tee "$room/stream" <"$room/pipe" | ${watching:-cat} >"$room/watched" 2>&1 &
+    watcher=$!
+    timeout 120 "$@" "$room/merged" >"$room/pipe" 2>"$room/told"
+    status=$?
+    wait "$watcher"
+    if [ "$status" != 0 ]; then
+        fail "$live" "it wasn't recorded: status $status, $(head -c 300 "$room/told" | tr '\n' ' ')"
+        return
+    fi
+    counts "$live, its lines and floors" python3 tests/programs/floors.py "$room/stream" --merged "$room/merged" $compared
+    grep -v '"kind":"floor"' "$room/stream" >"$room/log"
+    judges "$live is lawful" '^lawful$' 0
+    [ -z "$watching" ] || if head -n 1 "$room/watched" | grep -qx lawful && grep -qE "$wanted" "$room/watched"; then
+        pass "$live, watched"
+    else
+        fail "$live, watched" "$(head -c 300 "$room/watched" | tr '\n' ' ')"
+    fi
+}
+
+# A wrong register is told while its threads run: the watch ends, and the program sees its reader leave.
+#   is_told_live NAME PROGRAM WORDS..
+is_told_live() {
+    name="$1 is told while it runs"
+    shift
+    rm -f "$room/pipe" && mkfifo "$room/pipe" || return
+    timeout 120 "$@" "$room/merged" >"$room/pipe" 2>"$room/err" &
+    recorder=$!
+    $watching <"$room/pipe" >"$room/said" 2>&1
+    watched=$?
+    wait "$recorder"
+    status=$?
+    if [ "$watched" != 1 ] || ! head -n 1 "$room/said" | grep -qE '^unlawful lost [0-9]+$'; then
+        fail "$name" "status $watched: $(cat "$room/said" "$room/err" | head -c 300 | tr '\n' ' ')"
+    elif [ "$status" != 4 ]; then
+        fail "$name" "the program ended with status $status, and not as its reader left"
+    else
+        pass "$name"
+    fi
+}
+
+# Lines and floors while the threads run, in a program that is compiled as `recorded`.
+test_live() {
+    is_live "a sequence lock that is watched ($1)" 99999 0 --floors 10 -- "$room/recorded" seqlock 100000 live
+    is_live "an atomic word that is watched ($1)" 9999 0 --floors 100 -- "$room/recorded" atomic 10000 slow
+    is_live "a write that hangs ($1)" 6500 1 --floors 100 --told "$room/told" -- "$room/recorded" atomic 9000 hang
+    [ -z "$watching" ] || for register in torn last; do
+        is_told_live "$register ($1)" "$room/recorded" "$register" 300000 slow
+    done
+}
+
+# The same with ThreadSanitizer, where the compiler has it.
+test_live_sanitized() {
+    quiet=
+    [ "$c" = clang ] || quiet=-Wno-tsan
+    echo 'int main(void) { return 0; }' >"$room/empty.c"
+    "$c" -fsanitize=thread "$room/empty.c" -o "$room/empty" >/dev/null 2>&1 && "$room/empty" || return
+    if ! "$c" -std=c11 -D_GNU_SOURCE -O1 -g -fsanitize=thread $strict $quiet c/tests/recorded.c -o "$room/sanitized" >"$room/said" 2>&1; then
+        fail "c/tests/recorded.c with ThreadSanitizer ($c)" "it wasn't built: $(head -n 3 "$room/said" | tr '\n' ' ')"
+        return
+    fi
+    is_live "an atomic word with ThreadSanitizer ($c)" 9999 0 --floors 10 -- "$room/sanitized" atomic 10000 live
+    is_live "a write that hangs with ThreadSanitizer ($c)" 6500 1 --told "$room/told" -- "$room/sanitized" atomic 9000 hang
+}
+
+# Streams of a right register with a fault.
+test_planted_live() {
+    "$room/recorded" atomic 9000 hang "$room/merged" >"$room/stream" 2>"$room/told"
+    python3 tests/programs/floors.py "$room/stream" --raise >"$room/raised"
+    python3 tests/programs/floors.py "$room/stream" --leave-out >"$room/less"
+    catches "a floor that is one too high" "below the floor" counts a python3 tests/programs/floors.py "$room/raised"
+    catches "a line that is left out" "in place of" counts a python3 tests/programs/floors.py "$room/less" --merged "$room/merged"
+    catches "a call that nobody says to hang" "nobody is said" counts a python3 tests/programs/floors.py "$room/stream" --told /dev/null
+    [ -n "$watching" ] || return
+    is_watched "planted: a floor that is one too high is refused as late" 'begins below the floor of line [0-9]+$' 3 "$room/raised"
+    is_watched "planted: a write that is left out is told" '^unlawful lost [0-9]+$' 1 "$room/less"
+    catches "a right register that is to be told" "status 0: lawful" is_told_live a "$room/recorded" atomic 3000 slow
+}
+
 # Compiles and runs tests of the recorder; the name begins with the source.
 passes() {
     name=$1 source=${1%%[ ,]*}
@@ -118,6 +226,9 @@ test_in_c() {
     for words in 0 1 64; do
         passes "c/tests/recorder.c, with $words words ($c)" "$c" -std=c11 -D_POSIX_C_SOURCE=200809L -DNIDZARU_LOG_WORDS=$words
     done
+    echo 'int main(void) { return 0; }' >"$room/empty.c"
+    ! "$c" -fsanitize=address,undefined "$room/empty.c" -o "$room/empty" >/dev/null 2>&1 || passes "c/tests/recorder.c, with sanitizers ($c)" \
+        "$c" -std=c11 -fsanitize=address,undefined -fno-sanitize-recover=all
     passes "c/tests/recorder.c, by clock_gettime ($c)" "$c" -std=c11 -D_POSIX_C_SOURCE=199309L -DNIDZARU_LOG_TSC=0
     for words in '' -DNIDZARU_LOG_FENCE=0 -DNIDZARU_LOG_TSC=0; do
         # (the instructions of ARM's counter are no functions, which a test could replace: c/tests/planted_log.py looks at them)
@@ -157,6 +268,8 @@ test_in_c() {
     else
         fail "c/tests/recorded.c, without the fence ($c)" "it wasn't built: $(head -n 3 "$room/said" | tr '\n' ' ')"
     fi
+    test_live "$c"
+    test_live_sanitized
     test_processes
     test_killed
 }
@@ -221,6 +334,7 @@ test_planted() {
         printf '#!/bin/sh\necho "%s"\nexit %s\n' "${said%%:*}" "$(echo "$said" | cut -d : -f 2)" >"$room/stub" && chmod +x "$room/stub"
         catches "a built judge that says '${said%:*}'" "${said##*:}" judges_by_stub a '^lawful$' 0
     done
+    test_planted_live
     plants old '^unlawful (stale|crossed) [0-9]' 1
     plants lost '^unlawful unwritten [0-9]' 1
     plants misspelt 'line [0-9]+: missing end$' 3
