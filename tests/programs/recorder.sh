@@ -138,7 +138,7 @@ is_live() {
         fail "$live" "it wasn't recorded: status $status, $(head -c 300 "$room/told" | tr '\n' ' ')"
         return
     fi
-    counts "$live, its lines and floors" python3 tests/programs/floors.py "$room/stream" --merged "$room/merged" $compared
+    counts "$live, its lines and floors" python3 tests/programs/floors.py "$room/stream" $compared
     grep -v '"kind":"floor"' "$room/stream" >"$room/log"
     judges "$live is lawful" '^lawful$' 0
     [ -z "$watching" ] || if head -n 1 "$room/watched" | grep -qx lawful && grep -qE "$wanted" "$room/watched"; then
@@ -171,9 +171,9 @@ is_told_live() {
 
 # Lines and floors while the threads run, in a program that is compiled as `recorded`.
 test_live() {
-    is_live "a sequence lock that is watched ($1)" 99999 0 --floors 10 -- "$room/recorded" seqlock 100000 live
-    is_live "an atomic word that is watched ($1)" 9999 0 --floors 100 -- "$room/recorded" atomic 10000 slow
-    is_live "a write that hangs ($1)" 6500 1 --floors 100 --told "$room/told" -- "$room/recorded" atomic 9000 hang
+    is_live "a sequence lock that is watched ($1)" 99999 0 --floors 10 --merged "$room/merged" -- "$room/recorded" seqlock 100000 live
+    is_live "an atomic word that is watched ($1)" 9999 0 --floors 100 --merged "$room/merged" -- "$room/recorded" atomic 10000 slow
+    is_live "a write that hangs ($1)" 6500 1 --floors 100 --told "$room/told" --merged "$room/merged" -- "$room/recorded" atomic 9000 hang
     [ -z "$watching" ] || for register in torn last; do
         is_told_live "$register ($1)" "$room/recorded" "$register" 300000 slow
     done
@@ -189,8 +189,8 @@ test_live_sanitized() {
         fail "c/tests/recorded.c with ThreadSanitizer ($c)" "it wasn't built: $(head -n 3 "$room/said" | tr '\n' ' ')"
         return
     fi
-    is_live "an atomic word with ThreadSanitizer ($c)" 9999 0 --floors 10 -- "$room/sanitized" atomic 10000 live
-    is_live "a write that hangs with ThreadSanitizer ($c)" 6500 1 --told "$room/told" -- "$room/sanitized" atomic 9000 hang
+    is_live "an atomic word with ThreadSanitizer ($c)" 9999 0 --floors 10 --merged "$room/merged" -- "$room/sanitized" atomic 10000 live
+    is_live "a write that hangs with ThreadSanitizer ($c)" 6500 1 --told "$room/told" --merged "$room/merged" -- "$room/sanitized" atomic 9000 hang
 }
 
 # Streams of a right register with a fault.
@@ -367,6 +367,8 @@ test_in_rust() {
     fi
     records "record_seqlock.rs" lawful timeout 120 "$room/seqlock" "$operations"
     records "record_seqlock.rs, torn" refused timeout 120 "$room/seqlock" "$operations" torn
+    is_live "record_seqlock.rs while it runs" 99999 0 --floors 10 -- "$room/seqlock" 100000 live
+    [ -z "$watching" ] || is_told_live "record_seqlock.rs, torn" "$room/seqlock" 300000 torn live
 }
 
 test_crate() {

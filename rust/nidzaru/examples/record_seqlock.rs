@@ -2,18 +2,21 @@
 //!
 //!     record_seqlock OPERATIONS            the right one
 //!     record_seqlock OPERATIONS torn       one whose readers don't look at the sequence: sooner or later a record is torn
+//!     record_seqlock OPERATIONS live       the right one, lines and floors while the threads run, for `fsr watch`
+//!     record_seqlock OPERATIONS torn live  the wrong one, likewise, with pauses; where the reader of the lines leaves they stop (status 4)
 //!
 //! The wrong one lingers now and then in the middle of a write, while others read, so that a short log shows it.
 
-use nidzaru::log::{merge, pace, Log, Record};
+use nidzaru::log::{header, live, merge, pace, Live, Log, MergeError, Record};
 use std::env;
 use std::error::Error;
 use std::io::{self, BufWriter};
 use std::sync::atomic::{
-    fence, AtomicU64,
+    fence, AtomicBool, AtomicU64,
     Ordering::{Acquire, Relaxed, Release, SeqCst},
 };
-use std::thread;
+use std::time::Duration;
+use std::{process, thread};
 
 /// A record of eight words, the first of which is its number.
 type Item = [u64; 8];
@@ -26,6 +29,8 @@ fn item(number: u64) -> Item {
 #[derive(Default)]
 struct SeqLock {
     torn: bool,
+    slow: bool,
+    stopped: AtomicBool,
     sequence: AtomicU64,
     words: [AtomicU64; 8],
     reads: AtomicU64,
@@ -69,9 +74,17 @@ impl SeqLock {
     }
 }
 
+/// Whether a thread goes on, in a slow program after a pause.
+fn goes_on(shared: &SeqLock, log: &Log) -> bool {
+    if shared.slow {
+        thread::sleep(Duration::from_micros(50));
+    }
+    !log.is_full() && !shared.stopped.load(Relaxed)
+}
+
 fn write_all(shared: &SeqLock, log: &mut Log) {
     for n in 1.. {
-        if log.is_full() {
+        if !goes_on(shared, log) {
             break;
         }
         let item = item(n);
@@ -80,25 +93,46 @@ fn write_all(shared: &SeqLock, log: &mut Log) {
 }
 
 fn read_all(shared: &SeqLock, log: &mut Log) {
-    while !log.is_full() {
+    while goes_on(shared, log) {
         log.read(|| shared.read(), |item| Record::of_words(item));
         shared.reads.fetch_add(1, SeqCst);
     }
 }
 
+/// Writes lines and floors as long as the threads run.
+fn drain_all<'a>(mut lines: Live, threads: &[thread::ScopedJoinHandle<'a, ()>]) -> Result<u64, MergeError> {
+    let mut to = BufWriter::new(io::stdout().lock());
+    header(&mut to, Record::of_words(&item(0)), None)?;
+    while !threads.iter().all(|it| it.is_finished()) {
+        lines.drain(&mut to)?;
+        thread::sleep(Duration::from_millis(1));
+    }
+    lines.finish(&mut to)
+}
+
 fn main() -> Result<(), Box<dyn Error>> {
     let words: Vec<String> = env::args().skip(1).collect();
-    let room = words.first().ok_or("usage: record_seqlock OPERATIONS [torn]")?.parse::<usize>()? / 3;
-    let torn = words.get(1).is_some_and(|word| word == "torn");
-    let shared = SeqLock { torn, ..SeqLock::default() };
+    let room = words.first().ok_or("usage: record_seqlock OPERATIONS [torn] [live]")?.parse::<usize>()? / 3;
+    let (torn, is_live) = (words.iter().any(|word| word == "torn"), words.iter().any(|word| word == "live"));
+    let shared = SeqLock { torn, slow: torn && is_live, ..SeqLock::default() };
     let mut logs = [Log::new(0, room)?, Log::new(1, room)?, Log::new(2, room)?];
     pace(&mut logs, 200);
-    thread::scope(|scope| {
+    let lines = is_live.then(|| live(&mut logs));
+    let told = thread::scope(|scope| {
         let [first, second, third] = &mut logs;
-        scope.spawn(|| write_all(&shared, first));
-        scope.spawn(|| read_all(&shared, second));
-        scope.spawn(|| read_all(&shared, third));
+        let threads = [
+            scope.spawn(|| write_all(&shared, first)),
+            scope.spawn(|| read_all(&shared, second)),
+            scope.spawn(|| read_all(&shared, third)),
+        ];
+        let told = lines.map(|lines| drain_all(lines, &threads));
+        shared.stopped.store(told.as_ref().is_some_and(Result::is_err), Relaxed);
+        told
     });
-    merge(&mut BufWriter::new(io::stdout().lock()), &logs, Record::of_words(&item(0)), None)?;
+    match told {
+        Some(Err(MergeError::Stream(_))) => process::exit(4),
+        Some(told) => drop(told?),
+        None => drop(merge(&mut BufWriter::new(io::stdout().lock()), &logs, Record::of_words(&item(0)), None)?),
+    }
     Ok(())
 }

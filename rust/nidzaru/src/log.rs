@@ -33,6 +33,14 @@
 //! If one thread ends before another begins, a log shows nothing. So [`pace`] the logs before the threads begin: each thread waits, before it
 //! begins an operation, while it is so many ahead of the slowest. It looks by relaxed loads alone, which order nothing between the calls.
 //!
+//! # While the threads run
+//!
+//! [`live`] logs are written while their threads run: [`Live::drain`] writes what they have ended by now, and a floor, below which nothing more
+//! begins. `fsr watch` reads that as it comes, and tells at once where it is lost. No thread waits. The floor is the least begin of what is
+//! under way. A thread that is between two calls holds it at its last end, until it [pauses](Log::pause); one that hasn't begun, has left or
+//! whose log is full doesn't hold it. A call that hangs or panics holds it at its begin, until its thread begins another, or is [given
+//! up](Live::give_up).
+//!
 //! # Records
 //!
 //! A record is a number and a hash of all data. The number stands in the data; no two writes have the same, and none has the opening's. So
@@ -58,7 +66,10 @@
 use std::fmt;
 use std::io::{self, Write};
 use std::num::NonZeroU64;
-use std::sync::atomic::{AtomicU64, Ordering::Relaxed};
+use std::sync::atomic::{
+    AtomicBool, AtomicU64,
+    Ordering::{Acquire, Relaxed, Release},
+};
 use std::sync::Arc;
 use std::{hint, thread};
 
@@ -238,6 +249,11 @@ pub enum MergeError {
     },
     /// A write was refused, and no limit was told.
     NoLimit,
+    /// This thread was given up, and began another operation.
+    CameBack {
+        /// The thread's number.
+        who: u64,
+    },
     /// The lines weren't written.
     Stream(io::Error),
 }
@@ -246,6 +262,7 @@ impl fmt::Display for MergeError {
     fn fmt(&self, to: &mut fmt::Formatter<'_>) -> fmt::Result {
         match self {
             MergeError::Full { who, lost } => write!(to, "the log of thread {who} had no room for {lost} operations"),
+            MergeError::CameBack { who } => write!(to, "thread {who} was given up, and began another operation"),
             MergeError::NoLimit => to.write_str("a write was refused, and no limit was told"),
             MergeError::Stream(error) => write!(to, "the lines weren't written: {error}"),
         }
@@ -294,6 +311,19 @@ struct Line {
     record: Record,
 }
 
+impl Line {
+    /// Writes it, with times from this one on.
+    fn put(&self, to: &mut impl Write, who: u64, zero: u64) -> io::Result<()> {
+        write!(to, "{{\"who\":{who},\"kind\":\"{}\",\"begin\":{},\"end\":", self.kind, self.begin - zero)?;
+        match self.end {
+            Some(end) => write!(to, "{}", end - zero)?,
+            None => write!(to, "null")?,
+        }
+        self.record.put(to, "record")?;
+        writeln!(to, "}}")
+    }
+}
+
 /// What one thread did.
 #[derive(Debug)]
 pub struct Log {
@@ -306,6 +336,7 @@ pub struct Log {
     /// A write that has begun, and when.
     under_way: Option<(u64, Record)>,
     pace: Option<Pace>,
+    feed: Option<Arc<Feed>>,
 }
 
 /// How many operations of a thread ended, or [`LEFT`]. Threads share no cache line that they store to.
@@ -387,7 +418,7 @@ impl Log {
         // (every page is there before the threads begin)
         operations.resize(room, Operation { kind: Kind::Read, begin: 1, end: 1, record: Record::default() });
         operations.clear();
-        Ok(Log { who, operations, room, lost: 0, last_end: 0, fenced: true, under_way: None, pace: None })
+        Ok(Log { who, operations, room, lost: 0, last_end: 0, fenced: true, under_way: None, pace: None, feed: None })
     }
 
     /// The same without the fence before the stamp of an end.
@@ -399,6 +430,14 @@ impl Log {
     pub fn leave(&self) {
         if let Some(pace) = &self.pace {
             pace.turn().store(LEFT, Relaxed);
+        }
+        self.pause();
+    }
+
+    /// The thread may begin nothing for long. Until it does it doesn't hold the floor of a [`Live`] log.
+    pub fn pause(&self) {
+        if let Some(feed) = &self.feed {
+            feed.idle.store(true, Release);
         }
     }
 
@@ -434,7 +473,7 @@ impl Log {
         if took_effect(&given) {
             self.put(Operation { kind: Kind::Write, begin, end, record });
         } else {
-            self.take_turn();
+            self.rest();
         }
         given
     }
@@ -455,6 +494,9 @@ impl Log {
     fn run_write<T>(&mut self, record: Record, call: impl FnOnce() -> T) -> (u64, T, u64) {
         let begin = self.begin();
         self.under_way = Some((begin, record));
+        if let Some(feed) = &self.feed {
+            feed.begin_write(begin, record);
+        }
         let leaves = LeavesByPanic(self.pace.as_ref());
         let given = call();
         let end = clock::end(self.fenced);
@@ -468,7 +510,16 @@ impl Log {
         if let Some(pace) = &mut self.pace {
             pace.keep(wait_a_little());
         }
-        moment_after(self.last_end, clock::begin)
+        if let Some(feed) = &self.feed {
+            if feed.idle.load(Relaxed) {
+                self.last_end = feed.wake();
+            }
+        }
+        let begin = moment_after(self.last_end, clock::begin);
+        if let Some(feed) = &self.feed {
+            feed.begin.store(begin, Release);
+        }
+        begin
     }
 
     fn put(&mut self, operation: Operation) {
@@ -477,6 +528,20 @@ impl Log {
             self.lost += 1;
         } else {
             self.operations.push(operation);
+        }
+        if let Some(feed) = &self.feed {
+            feed.put(operation);
+        }
+        self.rest();
+    }
+
+    /// Nothing is under way any more.
+    fn rest(&self) {
+        if let Some(feed) = &self.feed {
+            feed.writing.store(0, Release);
+            if self.is_full() {
+                self.pause();
+            }
         }
         self.take_turn();
     }
@@ -505,6 +570,231 @@ impl Log {
         }
         let refused = limit.is_none() && self.operations.iter().any(|it| it.kind == Kind::Refused);
         refused.then_some(MergeError::NoLimit)
+    }
+}
+
+/// Words of an operation that one thread stores and another loads.
+#[derive(Debug, Default)]
+struct Slot([AtomicU64; 6 + WORDS]);
+
+impl Slot {
+    #[inline]
+    fn store(&self, it: &Operation) {
+        let Record { number, hash, kept, words } = &it.record;
+        let all = [it.kind as u64, it.begin, it.end, *number, *hash, *kept as u64];
+        self.0.iter().zip(all.iter().chain(words)).for_each(|(to, word)| to.store(*word, Relaxed));
+    }
+
+    fn load(&self) -> Operation {
+        let all: [u64; 6 + WORDS] = std::array::from_fn(|at| self.0[at].load(Relaxed));
+        let kind = [Kind::Write, Kind::Read, Kind::Refused][all[0] as usize];
+        let words = std::array::from_fn(|at| all[6 + at]);
+        Operation { kind, begin: all[1], end: all[2], record: Record { number: all[3], hash: all[4], kept: all[5] as usize, words } }
+    }
+}
+
+/// What one thread did, for one that drains. The operations are stored before their count, and the count before the next begin.
+#[derive(Debug, Default)]
+#[repr(align(128))]
+struct Feed {
+    who: u64,
+    slots: Box<[Slot]>,
+    count: AtomicU64,
+    begin: AtomicU64,
+    /// The place behind that of a write that is under way, or 0.
+    writing: AtomicU64,
+    under_way: Slot,
+    /// Whether the thread holds no floor: its next begin shows first that it does.
+    idle: AtomicBool,
+    lost: AtomicU64,
+    refused: AtomicBool,
+}
+
+impl Feed {
+    fn new(log: &Log) -> Feed {
+        let slots = (0..log.room).map(|_| Slot::default()).collect();
+        Feed { who: log.who, slots, idle: AtomicBool::new(true), ..Feed::default() }
+    }
+
+    /// The thread begins again, after this moment. Whoever still sees it idle has looked at the clock before.
+    #[cold]
+    #[inline(never)]
+    fn wake(&self) -> u64 {
+        self.idle.store(false, Relaxed);
+        clock::end(true)
+    }
+
+    fn begin_write(&self, begin: u64, record: Record) {
+        self.under_way.store(&Operation { kind: Kind::Write, begin, end: begin, record });
+        self.writing.store(self.count.load(Relaxed) + 1, Release);
+    }
+
+    fn put(&self, operation: Operation) {
+        let count = self.count.load(Relaxed);
+        let Some(slot) = self.slots.get(count as usize) else {
+            self.lost.store(self.lost.load(Relaxed) + 1, Release);
+            return;
+        };
+        slot.store(&operation);
+        if operation.kind == Kind::Refused {
+            self.refused.store(true, Relaxed);
+        }
+        self.count.store(count + 1, Release);
+    }
+}
+
+/// What was seen of a thread's feed.
+#[derive(Clone, Copy, Debug, Default)]
+struct Seen {
+    merged: u64,
+    counted: u64,
+    written: u64,
+    /// Below this moment nothing begins that isn't counted.
+    floor: u64,
+    /// What the thread had begun last when it was given up, and whether its write is still to be written.
+    given_up: Option<u64>,
+    is_new: bool,
+    under_way: bool,
+}
+
+impl Seen {
+    /// Looks what a thread has ended, and below which moment it begins nothing more. Idle, it begins after now; under way, at that begin; else
+    /// after its last end. The count is looked at last: what isn't counted hadn't begun before the begin that was seen, or is that.
+    fn look(&mut self, feed: &Feed, now: u64) {
+        let idle = feed.idle.load(Acquire);
+        let begin = feed.begin.load(Acquire);
+        let writing = feed.writing.load(Acquire);
+        self.counted = feed.count.load(Acquire);
+        self.under_way = self.is_new && writing == self.counted + 1;
+        let behind = self.counted.checked_sub(1).map_or(0, |last| feed.slots[last as usize].load().end + 1);
+        let floor = if idle || self.given_up.is_some() { now } else { begin.max(behind) };
+        self.floor = self.floor.max(floor);
+    }
+
+    /// The next line, if there is one: behind the operations that ended a write that is given up. If that ends after all it is left out.
+    fn next(&mut self, feed: &Feed) -> Option<Line> {
+        while self.merged < self.counted {
+            let Operation { kind, begin, end, record } = feed.slots[self.merged as usize].load();
+            if self.is_new || self.given_up != Some(begin) {
+                return Some(Line { kind, begin, end: Some(end), record });
+            }
+            self.merged += 1;
+        }
+        let Operation { kind, begin, record, .. } = feed.under_way.load();
+        self.under_way.then_some(Line { kind, begin, end: None, record })
+    }
+
+    /// The next line is written.
+    fn pass(&mut self) {
+        self.written += 1;
+        if self.merged < self.counted {
+            self.merged += 1;
+        } else {
+            self.under_way = false;
+        }
+    }
+
+    fn fault(&self, feed: &Feed) -> Option<MergeError> {
+        let (who, lost) = (feed.who, feed.lost.load(Acquire));
+        if self.given_up.is_some_and(|last| last != feed.begin.load(Acquire)) {
+            return Some(MergeError::CameBack { who });
+        } else if lost > 0 {
+            return Some(MergeError::Full { who, lost });
+        }
+        feed.refused.load(Acquire).then_some(MergeError::NoLimit)
+    }
+}
+
+/// Logs that are written while their threads run.
+#[derive(Debug)]
+pub struct Live {
+    feeds: Vec<Arc<Feed>>,
+    seen: Vec<Seen>,
+    floor: u64,
+}
+
+/// Logs that are written while their threads, none of which has begun, run; they take their memory again. The [`header`] is written first.
+pub fn live(logs: &mut [Log]) -> Live {
+    let feeds: Vec<_> = logs.iter().map(|log| Arc::new(Feed::new(log))).collect();
+    for (log, feed) in logs.iter_mut().zip(&feeds) {
+        log.feed = Some(Arc::clone(feed));
+    }
+    Live { seen: vec![Seen::default(); feeds.len()], feeds, floor: 0 }
+}
+
+impl Live {
+    /// Writes what all threads have ended since the last time, and floors: one at most every 16 lines. Times are the clock's own. After a
+    /// fault the last line is of kind `fault`, which every judge refuses.
+    pub fn drain(&mut self, to: &mut impl Write) -> Result<(), MergeError> {
+        let now = clock::begin();
+        self.seen.iter_mut().zip(&self.feeds).for_each(|(seen, feed)| seen.look(feed, now));
+        if let Some(fault) = self.seen.iter().zip(&self.feeds).find_map(|(seen, feed)| seen.fault(feed)) {
+            writeln!(to, "{{\"kind\":\"fault\"}}")?;
+            to.flush()?;
+            return Err(fault);
+        }
+        self.put_counted(to)?;
+        Ok(to.flush()?)
+    }
+
+    /// Writes what is left, the writes that are under way without an end, and the number of all lines, which is the answer. The threads have
+    /// ended, or stand still for good.
+    pub fn finish(mut self, to: &mut impl Write) -> Result<u64, MergeError> {
+        (0..self.feeds.len()).for_each(|at| self.give_up_at(at));
+        self.drain(to)?;
+        let count = self.seen.iter().map(|seen| seen.written).sum();
+        put_end(to, count)?;
+        Ok(count)
+    }
+
+    /// The thread that holds the floor, and the floor, as the last drain found them.
+    pub fn holder(&self) -> Option<(u64, u64)> {
+        let least = self.seen.iter().zip(&self.feeds).min_by_key(|(seen, _)| seen.floor)?;
+        Some((least.1.who, least.0.floor))
+    }
+
+    /// A thread that never comes back holds the floor no more. The next drain writes its write without an end. If it begins another
+    /// operation, drains have a fault.
+    pub fn give_up(&mut self, who: u64) {
+        if let Some(at) = self.feeds.iter().position(|feed| feed.who == who) {
+            self.give_up_at(at);
+        }
+    }
+
+    fn give_up_at(&mut self, at: usize) {
+        let seen = &mut self.seen[at];
+        if seen.given_up.is_none() {
+            (seen.given_up, seen.is_new) = (Some(self.feeds[at].begin.load(Acquire)), true);
+        }
+    }
+
+    /// Of the next lines the one that began first, with the place of its thread.
+    fn first(&mut self) -> Option<(usize, Line)> {
+        let next = self.seen.iter_mut().zip(&self.feeds).enumerate();
+        next.filter_map(|(at, (seen, feed))| Some((at, seen.next(feed)?))).min_by_key(|(_, line)| line.begin)
+    }
+
+    fn put_counted(&mut self, to: &mut impl Write) -> io::Result<()> {
+        let Some((who, last)) = self.holder() else { return Ok(()) };
+        let mut lines = 0;
+        while let Some((at, line)) = self.first() {
+            lines += 1;
+            if lines % 16 == 0 && line.begin < last {
+                self.put_floor(to, line.begin, self.feeds[at].who)?;
+            }
+            line.put(to, self.feeds[at].who, 0)?;
+            self.seen[at].pass();
+        }
+        self.seen.iter_mut().for_each(|seen| seen.is_new = false);
+        self.put_floor(to, last, who)
+    }
+
+    fn put_floor(&mut self, to: &mut impl Write, floor: u64, who: u64) -> io::Result<()> {
+        if floor <= self.floor {
+            return Ok(());
+        }
+        self.floor = floor;
+        writeln!(to, "{{\"kind\":\"floor\",\"begin\":{floor},\"who\":{who}}}")
     }
 }
 
@@ -563,23 +853,20 @@ pub fn merge(to: &mut impl Write, logs: &[Log], opening: Record, limit: Option<N
     header(to, opening, limit)?;
     let first = first_of(logs, &vec![0; logs.len()]);
     let count = put_all(to, logs, first.map_or(0, |(_, line)| line.begin))?;
-    writeln!(to, "{{\"kind\":\"done\",\"ops\":{count}}}")?;
-    to.flush()?;
+    put_end(to, count)?;
     Ok(count)
+}
+
+fn put_end(to: &mut impl Write, count: u64) -> io::Result<()> {
+    writeln!(to, "{{\"kind\":\"done\",\"ops\":{count}}}")?;
+    to.flush()
 }
 
 /// Writes the operations of all logs by beginning, with times from this one on, and answers how many there are.
 fn put_all(to: &mut impl Write, logs: &[Log], zero: u64) -> io::Result<u64> {
     let (mut places, mut count) = (vec![0; logs.len()], 0);
     while let Some((at, line)) = first_of(logs, &places) {
-        let (who, begin, record) = (logs[at].who, line.begin - zero, line.record);
-        write!(to, "{{\"who\":{who},\"kind\":\"{}\",\"begin\":{begin},\"end\":", line.kind)?;
-        match line.end {
-            Some(end) => write!(to, "{}", end - zero)?,
-            None => write!(to, "null")?,
-        }
-        record.put(to, "record")?;
-        writeln!(to, "}}")?;
+        line.put(to, logs[at].who, zero)?;
         places[at] += 1;
         count += 1;
     }
@@ -822,6 +1109,229 @@ mod tests {
                 });
             }
         });
+    }
+
+    /// What the next drain writes.
+    fn drained(live: &mut Live) -> String {
+        let mut written = Vec::new();
+        live.drain(&mut written).unwrap();
+        String::from_utf8(written).unwrap()
+    }
+
+    /// Sees that the next drain writes these lines, and behind them one floor: the present, which thread 3 is said to hold.
+    fn present(live: &mut Live, lines: &str) -> u64 {
+        let (before, text) = (clock::begin(), drained(live));
+        let floor = text.strip_prefix(lines).and_then(|it| it.strip_prefix("{\"kind\":\"floor\",\"begin\":"));
+        let floor = floor.and_then(|it| it.strip_suffix(",\"who\":3}\n")).expect(&text).parse().expect(&text);
+        assert!(before <= floor && floor <= clock::end(true), "{text}");
+        floor
+    }
+
+    fn floor(begin: u64, who: u64) -> String {
+        format!("{{\"kind\":\"floor\",\"begin\":{begin},\"who\":{who}}}\n")
+    }
+
+    fn row(who: u64, kind: &str, begin: u64, end: &str, number: u64) -> String {
+        format!("{{\"who\":{who},\"kind\":\"{kind}\",\"begin\":{begin},\"end\":{end},\"record\":[{number},9]}}\n")
+    }
+
+    /// Sets the times of an operation in the feed, and of the last begin.
+    fn set_fed(log: &Log, at: usize, begin: u64, end: u64) {
+        let feed = log.feed.as_ref().unwrap();
+        feed.slots[at].store(&Operation { begin, end, ..feed.slots[at].load() });
+        feed.begin.store(begin, Relaxed);
+    }
+
+    /// A write that begins at this moment, and doesn't end.
+    fn begin_write(log: &mut Log, moment: u64) {
+        let begin = log.begin();
+        log.feed.as_ref().unwrap().begin_write(begin, SECOND);
+        begin_at(log, moment);
+    }
+
+    fn begin_at(log: &Log, moment: u64) {
+        let feed = log.feed.as_ref().unwrap();
+        let place = feed.writing.load(Relaxed);
+        feed.begin_write(moment, SECOND);
+        feed.writing.store(place, Relaxed);
+        feed.begin.store(moment, Relaxed);
+    }
+
+    /// Two threads that have ended an operation each, at 109 and 103.
+    fn fed() -> ([Log; 2], Live) {
+        let mut logs = [Log::new(3, 4).unwrap(), Log::new(5, 4).unwrap()];
+        let live = live(&mut logs);
+        logs[0].write(FIRST, || ());
+        logs[1].read(|| OPENING, |it| *it);
+        set_fed(&logs[0], 0, 102, 109);
+        set_fed(&logs[1], 0, 100, 103);
+        (logs, live)
+    }
+
+    fn first_rows() -> String {
+        row(5, "read", 100, "103", 0) + &row(3, "write", 102, "109", 1)
+    }
+
+    #[test]
+    fn a_floor_is_below_what_is_under_way() {
+        let ([mut one, mut two], mut live) = fed();
+        assert_eq!(drained(&mut live), first_rows() + &floor(104, 5));
+        assert_eq!(live.holder(), Some((5, 104)));
+        assert_eq!(drained(&mut live), "");
+        begin_write(&mut one, 120);
+        two.read(|| OPENING, |it| *it);
+        set_fed(&two, 1, 150, 160);
+        assert_eq!(drained(&mut live), row(5, "read", 150, "160", 0) + &floor(120, 3));
+        assert_eq!((drained(&mut live), live.holder()), (String::new(), Some((3, 120))));
+        live.give_up(3);
+        assert_eq!(drained(&mut live), row(3, "write", 120, "null", 2) + &floor(161, 5));
+        two.pause();
+        let present = present(&mut live, "");
+        let begin = two.begin();
+        assert!(begin > present);
+        assert_eq!(drained(&mut live), floor(begin, 5));
+        let mut text = Vec::new();
+        assert_eq!(live.finish(&mut text).unwrap(), 4);
+        assert!(String::from_utf8(text).unwrap().ends_with("{\"kind\":\"done\",\"ops\":4}\n"));
+    }
+
+    #[test]
+    fn a_thread_that_is_idle_holds_no_floor() {
+        let mut logs = [Log::new(3, 1).unwrap(), Log::new(5, 1).unwrap()];
+        let mut live = live(&mut logs);
+        let floor_before = present(&mut live, "");
+        let shown = logs[0].begin();
+        assert!(shown > logs[0].last_end && logs[0].last_end > floor_before);
+        logs[0].write(FIRST, || ());
+        set_fed(&logs[0], 0, 102, 109);
+        present(&mut live, &row(3, "write", 102, "109", 1));
+        logs[0].write_if(SECOND, || false, |it| *it);
+        present(&mut live, "");
+        let ([_one, two], mut live) = fed();
+        two.leave();
+        assert_eq!(drained(&mut live), first_rows() + &floor(110, 3));
+        two.feed.as_ref().unwrap().wake();
+        assert_eq!(drained(&mut live), "");
+        assert!(live.seen[1].floor > 110);
+    }
+
+    #[test]
+    fn what_is_given_up_is_written_once() {
+        let ([mut one, mut two], mut live) = fed();
+        begin_write(&mut one, 120);
+        begin_at(&two, 130);
+        live.give_up(3);
+        live.give_up(5);
+        present(&mut live, &(first_rows() + &row(3, "write", 120, "null", 2)));
+        one.put(Operation { kind: Kind::Write, begin: 120, end: 140, record: SECOND });
+        two.put(Operation { kind: Kind::Read, begin: 130, end: 140, record: FIRST });
+        live.give_up(3);
+        present(&mut live, "");
+        two.read(|| OPENING, |it| *it);
+        let mut text = Vec::new();
+        let told = live.finish(&mut text).unwrap_err();
+        assert_eq!(told.to_string(), "thread 5 was given up, and began another operation");
+        assert_eq!(text, b"{\"kind\":\"fault\"}\n");
+        let ([mut one, _two], mut live) = fed();
+        begin_write(&mut one, 120);
+        live.give_up(3);
+        one.put(Operation { kind: Kind::Write, begin: 120, end: 125, record: SECOND });
+        one.feed.as_ref().unwrap().writing.store(2, Relaxed);
+        assert_eq!(drained(&mut live), first_rows() + &row(3, "write", 120, "125", 2) + &floor(104, 5));
+        let ([mut one, _two], live) = fed();
+        begin_write(&mut one, 120);
+        let mut text = Vec::new();
+        assert_eq!(live.finish(&mut text).unwrap(), 3);
+        assert!(String::from_utf8(text).unwrap().contains(&row(3, "write", 120, "null", 2)));
+    }
+
+    #[test]
+    fn nothing_but_a_fault_is_drained() {
+        let mut logs = [Log::new(3, 1).unwrap(), Log::new(5, 1).unwrap()];
+        let mut some = live(&mut logs);
+        logs[1].read(|| OPENING, |it| *it);
+        logs[1].read(|| OPENING, |it| *it);
+        let mut text = Vec::new();
+        assert!(matches!(some.drain(&mut text), Err(MergeError::Full { who: 5, lost: 1 })));
+        let mut some = live(&mut logs[..1]);
+        let refused = logs[0].try_write(SECOND, || Err::<(), _>(FIRST), |it| *it);
+        assert!(refused.is_err() && matches!(some.drain(&mut text), Err(MergeError::NoLimit)));
+        assert_eq!(String::from_utf8(text).unwrap(), "{\"kind\":\"fault\"}\n".repeat(2));
+        let ([_one, _two], mut some) = fed();
+        assert!(matches!(some.drain(&mut Late), Err(MergeError::Stream(_))));
+        assert!(matches!(live(&mut []).finish(&mut Late), Err(MergeError::Stream(_))));
+        assert_eq!(live(&mut []).finish(&mut Vec::new()).unwrap(), 0);
+    }
+
+    #[test]
+    fn many_lines_have_floors_between_them() {
+        let mut logs = [Log::new(3, 40).unwrap()];
+        let mut live = live(&mut logs);
+        (0..40).for_each(|_| logs[0].read(|| (), |()| FIRST));
+        let mut wanted = String::new();
+        for (at, it) in logs[0].operations.iter().enumerate() {
+            if at == 15 || at == 31 {
+                wanted += &floor(it.begin, 3);
+            }
+            wanted += &row(3, "read", it.begin, &it.end.to_string(), 1);
+        }
+        present(&mut live, &wanted);
+        let ([mut one, mut two], mut live) = fed();
+        begin_write(&mut one, 120);
+        assert_eq!(drained(&mut live), first_rows() + &floor(104, 5));
+        two.read(|| OPENING, |it| *it);
+        two.read(|| OPENING, |it| *it);
+        set_fed(&two, 1, 121, 129);
+        set_fed(&two, 2, 131, 135);
+        assert_eq!(drained(&mut live), row(5, "read", 121, "129", 0) + &row(5, "read", 131, "135", 0) + &floor(120, 3));
+    }
+
+    /// Also words are fed.
+    #[test]
+    fn a_slot_keeps_an_operation() {
+        let slot = Slot::default();
+        for kind in [Kind::Write, Kind::Read, Kind::Refused] {
+            let it = Operation { kind, begin: 5, end: 6, record: Record::of_words(&[1, 2, 3]) };
+            slot.store(&it);
+            assert_eq!(format!("{:?}", slot.load()), format!("{it:?}"));
+        }
+    }
+
+    /// Each line is above the floors before it, whatever the threads do meanwhile.
+    #[test]
+    fn lines_obey_the_floors_while_threads_run() {
+        let mut logs = [Log::new(0, 3000).unwrap(), Log::new(1, 3000).unwrap(), Log::new(2, 3000).unwrap()];
+        let (mut live, mut text) = (live(&mut logs), Vec::new());
+        pace(&mut logs, 50);
+        thread::scope(|scope| {
+            for log in &mut logs {
+                scope.spawn(|| {
+                    while !log.is_full() {
+                        log.read(|| (), |()| FIRST);
+                        if log.operations.len() % 7 == 0 {
+                            log.pause();
+                        }
+                    }
+                });
+            }
+            while live.seen.iter().any(|it| it.written < 3000) {
+                live.drain(&mut text).unwrap();
+                thread::yield_now();
+            }
+        });
+        assert_eq!(live.finish(&mut text).unwrap(), 9000);
+        let (mut floor, mut operations) = (0, 0);
+        for line in String::from_utf8(text).unwrap().lines().filter(|it| !it.contains("done")) {
+            let (_, rest) = line.split_once("\"begin\":").unwrap();
+            let begin: u64 = rest.split(',').next().unwrap().parse().unwrap();
+            assert!(begin >= floor, "{line} is below {floor}");
+            if line.contains("floor") {
+                floor = begin;
+            } else {
+                operations += 1;
+            }
+        }
+        assert_eq!(operations, 9000);
     }
 
     #[test]
