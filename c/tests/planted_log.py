@@ -24,6 +24,7 @@ PROGRAMS = {
     "stamped": ("stamped.c", [], []),
     "unfenced": ("stamped.c", ["-DNIDZARU_LOG_FENCE=0"], []),
     "by the clock": ("stamped.c", ["-DNIDZARU_LOG_TSC=0"], []),
+    "drained": ("drained.c", [], []),
     "steps": ("killed.c", [], ["steps", "left.log"]),
 }
 # Calls whose instructions are looked at: what stands between a recorded call's stamps, and where these are.
@@ -77,6 +78,11 @@ BEGINS = ("if (it->idle) nidzaru_log_wake(log); nidzaru_log_tally(&it->unpaired,
 ARM_END = '#elif NIDZARU_LOG_FENCE && NIDZARU_LOG_ARM __asm__ volatile("dsb ish" : : : "memory");'
 # What holds of the floor of one thread.
 FLOOR = "if (idle || log->given_up) floor = now; if (floor > log->floor) log->floor = floor;"
+# In what order a drain looks at a thread.
+IDLE = "uint64_t idle = __atomic_load_n(&log->state->idle, __ATOMIC_ACQUIRE);"
+BEGIN = "uint64_t floor = __atomic_load_n(&log->state->under_way.begin, __ATOMIC_ACQUIRE);"
+UNDER_WAY = "int writes = __atomic_load_n(&log->state->under_way.kind, __ATOMIC_ACQUIRE) == NIDZARU_LOG_WRITE;"
+COUNT = "log->counted = __atomic_load_n(&log->state->count, __ATOMIC_ACQUIRE);"
 
 # The name of an edit, its file, the old text, the new one, and the test that refuses it.
 PLANTED = [
@@ -183,6 +189,9 @@ PLANTED = [
     ("lines by a zero of their own", H, "nidzaru_log_put_all(to, logs, count, 0);", "nidzaru_log_put_all(to, logs, count, nidzaru_log_next(logs[0])->begin);", "recorder"),
     ("lines of a log that lost one", H, "int fault = nidzaru_log_fault(logs, count, 1);", "int fault = 0;", "recorder"),
     ("a floor that is one too high", H, FLOOR, FLOOR.replace("log->floor = floor;", "log->floor = floor + 1;"), "recorder"),
+    ("a count that is looked at before the begin", H, f"{IDLE} {BEGIN} {UNDER_WAY} {COUNT}", f"{COUNT} {IDLE} {BEGIN} {UNDER_WAY}", "drained"),
+    ("a pause that is looked at behind the count", H, f"{IDLE} {BEGIN} {UNDER_WAY} {COUNT}", f"{BEGIN} {UNDER_WAY} {COUNT} {IDLE}", "drained"),
+    ("a clock that is looked at behind the threads", H, FLOOR, FLOOR.replace("floor = now;", "floor = nidzaru_log_stamp_begin(0);"), "drained"),
     ("a floor above what is under way", H, FLOOR, FLOOR.replace("if (idle || log->given_up) ", ""), "recorder"),
     ("a floor that a thread without operations holds", H, FLOOR, FLOOR.replace("idle || ", ""), "recorder"),
     ("a floor that a thread holds that was given up", H, FLOOR, FLOOR.replace(" || log->given_up", ""), "recorder"),

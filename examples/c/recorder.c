@@ -2,7 +2,8 @@
  * not again behind it.
  *
  * cc -std=c11 -D_POSIX_C_SOURCE=200809L -O2 -pthread -I c examples/c/recorder.c -o recorder
- * ./recorder 1000000 > log.jsonl; ./recorder 1000000 mended > log.jsonl */
+ * ./recorder 1000000 > log.jsonl; ./recorder 1000000 mended > log.jsonl
+ * With `live` behind that it writes lines and floors while the threads run: ./recorder 1000000 live | fsr watch */
 #include "nidzaru_log.h"
 #include <pthread.h>
 #include <stdatomic.h>
@@ -15,7 +16,8 @@ struct reading {
 };
 
 static atomic_ullong sequence, words[WORDS];
-static int mended;
+static atomic_int running = THREADS;
+static int mended, is_live;
 
 static void publish(const struct reading *r) {
     uint64_t from[WORDS], now = atomic_load_explicit(&sequence, memory_order_relaxed);
@@ -50,6 +52,7 @@ static void *write_all(void *shared) {
         publish(&r);
         nidzaru_log_end_write(log);
     }
+    atomic_fetch_sub(&running, 1);
     return 0;
 }
 
@@ -62,15 +65,32 @@ static void *read_all(void *shared) {
         fetch(&r);
         nidzaru_log_end_read(log, r.number, &r, sizeof r);
     }
+    atomic_fetch_sub(&running, 1);
     return 0;
+}
+
+static int drain_all(nidzaru_log *const *all, nidzaru_log_record opening) {
+    struct timespec millisecond = {0, 1000000};
+    nidzaru_log_header(stdout, opening, 0);
+    while (atomic_load(&running)) {
+        int status = nidzaru_log_drain(stdout, all, THREADS);
+        if (status) return status;
+        nanosleep(&millisecond, 0);
+    }
+    return nidzaru_log_finish(stdout, all, THREADS);
 }
 
 int main(int count, char **arguments) {
     struct reading opening = {0, 0, 0, 0};
+    nidzaru_log_record held = nidzaru_log_record_of(opening.number, &opening, sizeof opening);
+    int status = 0;
     nidzaru_log *all[THREADS];
     pthread_t threads[THREADS];
     size_t operations = count > 1 ? strtoul(arguments[1], 0, 10) : 1000000;
-    mended = count > 2;
+    for (int k = 2; k < count; k++) {
+        mended |= !strcmp(arguments[k], "mended");
+        is_live |= !strcmp(arguments[k], "live");
+    }
     pthread_barrier_init(&start, 0, THREADS);
     for (int k = 0; k < THREADS; k++) {
         all[k] = &logs[k];
@@ -78,6 +98,8 @@ int main(int count, char **arguments) {
     }
     nidzaru_log_pace(all, THREADS, 200);
     for (int k = 0; k < THREADS; k++) pthread_create(&threads[k], 0, k ? read_all : write_all, all[k]);
+    if (is_live) status = drain_all(all, held);
+    if (status) return status;
     for (int k = 0; k < THREADS; k++) pthread_join(threads[k], 0);
-    return nidzaru_log_merge(stdout, all, THREADS, nidzaru_log_record_of(opening.number, &opening, sizeof opening), 0);
+    return is_live ? 0 : nidzaru_log_merge(stdout, all, THREADS, held, 0);
 }

@@ -230,6 +230,7 @@ test_in_c() {
     ! "$c" -fsanitize=address,undefined "$room/empty.c" -o "$room/empty" >/dev/null 2>&1 || passes "c/tests/recorder.c, with sanitizers ($c)" \
         "$c" -std=c11 -fsanitize=address,undefined -fno-sanitize-recover=all
     passes "c/tests/recorder.c, by clock_gettime ($c)" "$c" -std=c11 -D_POSIX_C_SOURCE=199309L -DNIDZARU_LOG_TSC=0
+    passes "c/tests/drained.c ($c)" "$c" -std=c11
     for words in '' -DNIDZARU_LOG_FENCE=0 -DNIDZARU_LOG_TSC=0; do
         # (the instructions of ARM's counter are no functions, which a test could replace: c/tests/planted_log.py looks at them)
         [ "$words" = -DNIDZARU_LOG_TSC=0 ] || case $("$c" -dumpmachine) in aarch64*) continue ;; esac
@@ -244,6 +245,7 @@ test_in_c() {
     if "$c" -std=c11 -D_POSIX_C_SOURCE=200809L -O2 $strict examples/c/recorder.c -o "$room/example" >"$room/said" 2>&1; then
         records "examples/c/recorder.c, mended ($c)" lawful timeout 120 "$room/example" "$operations" mended
         is_condemned "examples/c/recorder.c ($c)" 20 "$room/example" $((operations * 8))
+        is_live "examples/c/recorder.c, mended, while it runs ($c)" 9000 0 --floors 9 -- "$room/example" 9000 mended live
     else
         fail "examples/c/recorder.c ($c)" "it wasn't built: $(head -n 3 "$room/said" | tr '\n' ' ')"
     fi
