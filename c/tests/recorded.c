@@ -315,14 +315,14 @@ static void tell_held(nidzaru_log *const *all, size_t tasks) {
     if (drains == 2 * LONG) nidzaru_log_give_up(holder);
 }
 
-/* Writes lines and floors until all threads have ended, but for one that hangs. Answers the status of the last drain. */
+/* Writes lines and floors until all threads have ended, but for one that hangs and was given up. Answers the status of the last drain. */
 static int drain_all(nidzaru_log *const *all, int tasks, nidzaru_log_record opening) {
-    int status = 0, awaited = strcmp(way, "hang") ? tasks : tasks - 1;
+    int status = 0, hung = !strcmp(way, "hang"), awaited = tasks - hung;
     signal(SIGPIPE, SIG_IGN);
     nidzaru_log_header(stdout, opening, 0);
-    while (!status && atomic_load(&ended) < awaited) {
+    while (!status && (atomic_load(&ended) < awaited || (hung && !all[0]->given_up))) {
         status = nidzaru_log_drain(stdout, all, (size_t)tasks);
-        if (awaited < tasks) tell_held(all, (size_t)tasks);
+        if (hung) tell_held(all, (size_t)tasks);
         sleep_a_little();
     }
     if (status && atomic_load(&ended) < awaited) {
