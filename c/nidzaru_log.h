@@ -736,7 +736,7 @@ NIDZARU_LOG_CHECKED int nidzaru_log_drain(FILE *to, nidzaru_log *const *logs, si
     return fault;
 }
 
-/* Writes what is left, the writes that are under way without an end, and the number of all lines. */
+/* Writes what is left, the writes that are under way without an end, and the number of all lines. A merge of the same logs may follow. */
 NIDZARU_LOG_CHECKED int nidzaru_log_finish(FILE *to, nidzaru_log *const *logs, size_t count) {
     uint64_t operations = 0;
     int fault;
