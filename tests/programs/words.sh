@@ -265,12 +265,22 @@ writes_at_once() {
 }
 writes_at_once 12 >"$room/twelve.jsonl"
 writes_at_once 2 >"$room/two.jsonl"
+# (few of them are enough for an order; that there is none for a read of what nobody wrote only all of them show)
+{ cat "$room/twelve.jsonl" && echo '{"who":13,"kind":"read","begin":100,"end":101,"record":99}'; } >"$room/none.jsonl"
 echo 'fsr: line 2: too many configurations' >"$room/wanted"
-ends_fsr 7 err order "$room/twelve.jsonl"
+ends_fsr 7 err order "$room/none.jsonl"
 ends_fsr 7 err order --budget 1 "$room/two.jsonl"
 printf 'lawful\n12 operations, 0 unfinished, 0 uncertain, 13 records; no last line `done`\n' >"$room/wanted"
+ends_fsr 0 out order "$room/twelve.jsonl"
 ends_fsr 0 out order --budget 24577 "$room/twelve.jsonl"
 ends_fsr 0 out order --budget=1000000000 "$room/twelve.jsonl"
+cat >"$room/wanted" <<'TEXT'
+unlawful unwritten 14
+line 14: {"who":13,"kind":"read","begin":100,"end":101,"record":99}
+Line 14 found a record that is neither the opening nor written by another line.
+13 operations, 0 unfinished, 0 uncertain, 14 records; no last line `done`
+TEXT
+ends_fsr 1 out order --budget 24577 "$room/none.jsonl"
 printf 'lawful\n2 operations, 0 unfinished, 0 uncertain, 3 records; no last line `done`\n' >"$room/wanted"
 ends_fsr 0 out order --budget 5 "$room/two.jsonl"
 ends_fsr 0 out order "$room/two.jsonl"
