@@ -1,0 +1,2 @@
+pub mod WholeLogs
+pub mod inner
