@@ -1,0 +1,2 @@
+pub mod CoherenceAnswers
+pub mod CoherenceText

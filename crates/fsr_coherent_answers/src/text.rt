@@ -1,0 +1,225 @@
+//! All that is printed of a log that is asked for its coherence.
+ghost use Rattle.std.specs.Prelude.{◌≡◌, ◌++◌, ◌*◌, ℕ, List, map, nat_lt, IfOk, OnOk};
+ghost use Rattle.fsr_coherent_answers.specs.CoherenceText.{ahead_text, circle_text, coherence_text, counts_text};
+ghost use Rattle.fsr_coherent_answers.specs.CoherenceText.{found_text, incoherent_text, name_of, named_text};
+ghost use Rattle.fsr_coherent_answers.specs.CoherenceText.{sentence_text};
+ghost use Rattle.fsr_order_answers.specs.Text.{count_text, end_text, little_text};
+ghost use Rattle.print_reasons.specs.Sentences.{number_text, unwritten_text};
+ghost use Rattle.print_reasons.specs.Text.{body_of, line_text, write_lines};
+ghost use Rattle.print_reasons.specs.Together.{shown_lines};
+ghost use Rattle.read_line.specs.Places.{line_at};
+
+use crate::lines::{body_lines, line_in};
+use crate::places::places_in;
+use history_coherence::{Coherence, Incoherence};
+use print_reasons::{push_u64, push_words};
+use read_line::line_of;
+use std::alloc::{AllocError, Global};
+use whole_log::WholeLog;
+
+/// What was found, and the counts.
+pub(crate) fn coherence_text(
+    alloc: Global,
+    bytes: &[u8],
+    log: &WholeLog,
+    found: &Coherence,
+) -> Result<Vec<u8>, AllocError>
+    ensures { IfOk result (λ text. text.items ≡ coherence_text bytes.now log.now found.now) }
+{
+    let mut text = found_text(alloc, bytes, log, found)?;
+    push_counts(&mut text, log)?;
+    Ok(text)
+}
+
+fn found_text(
+    alloc: Global,
+    bytes: &[u8],
+    log: &WholeLog,
+    found: &Coherence,
+) -> Result<Vec<u8>, AllocError>
+    ensures { IfOk result (λ text. text.items ≡ found_text bytes.now log.now found.now) }
+{
+    match found {
+        Coherence::Coherent { .. } => {
+            let mut text = Vec::from_slice(alloc, b"coherent\n")?;
+            push_little(&mut text, log.ops.len(), log.records, log.read)?;
+            Ok(text)
+        }
+        Coherence::Incoherent { reason } => incoherent_text(alloc, bytes, reason),
+    }
+}
+
+/// How little so many operations and records show, if so.
+fn push_little(
+    text: &mut Vec<u8>,
+    ops: usize,
+    records: usize,
+    read: usize,
+) -> Result<(), AllocError>
+    ensures { OnOk result (text.new.items ≡ text.old.items ++ little_text ops records read) }
+{
+    if ops == 0 {
+        push_words(text, "Nothing was shown: there is no operation.\n")
+    } else if are_few(read, records) {
+        push_words(
+            text,
+            "Little was shown: less than 1 % of the records were read.\n",
+        )
+    } else {
+        Ok(())
+    }
+}
+
+/// Whether these are less than one of a hundred.
+fn are_few(read: usize, records: usize) -> bool
+    ensures { result ≡ nat_lt (read * 100) records }
+{
+    u128::from(read as u64) * 100 < u128::from(records as u64)
+}
+
+/// A reason by its lines, these lines as they stand in the log, and a sentence.
+#[tactic(auto, using(std::proofs::Common::append_assoc))]
+fn incoherent_text(alloc: Global, bytes: &[u8], reason: &Incoherence) -> Result<Vec<u8>, AllocError>
+    ensures { IfOk result (λ text. text.items ≡ incoherent_text bytes.now reason.now) }
+{
+    let places = places_in(alloc, reason)?;
+    let lines = body_lines(alloc, bytes)?;
+    let mut text = Vec::from_slice(alloc, b"incoherent ")?;
+    push_words(&mut text, name_of(reason))?;
+    push_named(&mut text, places.as_slice())?;
+    push_shown(&mut text, lines.as_slice(), places.as_slice())?;
+    push_sentence(&mut text, reason)?;
+    Ok(text)
+}
+
+fn name_of(reason: &Incoherence) -> &'static str
+    ensures { result.now ≡ name_of reason.now }
+{
+    match reason {
+        Incoherence::Unwritten { .. } => "unwritten",
+        Incoherence::Ahead { .. } => "ahead",
+        Incoherence::Circle { .. } => "circle",
+    }
+}
+
+#[tactic(auto, using(std::proofs::Common::append_assoc))]
+fn push_named(text: &mut Vec<u8>, places: &[usize]) -> Result<(), AllocError>
+    ensures { OnOk result (text.new.items ≡ text.old.items ++ named_text places.now) }
+{
+    push_numbers(text, places)?;
+    push_words(text, "\n")
+}
+
+/// The lines of these places, each behind a blank.
+fn push_numbers(text: &mut Vec<u8>, places: &[usize]) -> Result<(), AllocError>
+    ensures { OnOk result (text.new.items ≡ text.old.items ++ write_lines places.now) }
+{
+    for place in places {
+        push_line_of(text, " ", *place)?;
+    }
+    Ok(())
+}
+
+/// The lines as they stand in the log, each behind its number.
+fn push_shown(text: &mut Vec<u8>, lines: &[&[u8]], places: &[usize]) -> Result<(), AllocError>
+    ensures { OnOk result ((bytes : List ℕ) → map (λ line. line.now) lines.now ≡ body_of bytes →
+        text.new.items ≡ text.old.items ++ shown_lines bytes places.now) }
+{
+    for place in places {
+        push_line(text, *place, line_in(lines, *place))?;
+    }
+    Ok(())
+}
+
+#[tactic(auto, using(std::proofs::Common::append_assoc))]
+fn push_line(text: &mut Vec<u8>, place: usize, line: &[u8]) -> Result<(), AllocError>
+    ensures { OnOk result (text.new.items ≡ text.old.items ++ line_text place line.now) }
+{
+    push_line_of(text, "line ", place)?;
+    push_words(text, ": ")?;
+    text.extend_from_slice(line)?;
+    push_words(text, "\n")
+}
+
+fn push_line_of(text: &mut Vec<u8>, words: &str, place: usize) -> Result<(), AllocError>
+    ensures { OnOk result (text.new.items ≡ text.old.items ++ number_text words.now (line_at place)) }
+{
+    let line = line_of(place)?;
+    push_u64(text, words, line as u64)
+}
+
+fn push_sentence(text: &mut Vec<u8>, reason: &Incoherence) -> Result<(), AllocError>
+    ensures { OnOk result (text.new.items ≡ text.old.items ++ sentence_text reason.now) }
+{
+    match reason {
+        Incoherence::Unwritten { read } => push_unwritten(text, *read),
+        Incoherence::Ahead { read, write } => push_ahead(text, *read, *write),
+        Incoherence::Circle { .. } => push_circle(text),
+    }
+}
+
+#[tactic(auto, using(std::proofs::Common::append_assoc))]
+fn push_circle(text: &mut Vec<u8>) -> Result<(), AllocError>
+    ensures { OnOk result (text.new.items ≡ text.old.items ++ circle_text) }
+{
+    push_words(
+        text,
+        "Each two lines are of one task, so the record of the first has to stand before that of the second.\n",
+    )?;
+    push_words(
+        text,
+        "That goes in a circle; the opening stands before all others.\n",
+    )
+}
+
+fn push_unwritten(text: &mut Vec<u8>, read: usize) -> Result<(), AllocError>
+    ensures { OnOk result (text.new.items ≡ text.old.items ++ unwritten_text read) }
+{
+    push_line_of(text, "Line ", read)?;
+    push_words(
+        text,
+        " gave a record that is neither the opening nor written.\n",
+    )
+}
+
+fn push_ahead(text: &mut Vec<u8>, read: usize, write: usize) -> Result<(), AllocError>
+    ensures { OnOk result (text.new.items ≡ text.old.items ++ ahead_text read write) }
+{
+    push_line_of(text, "Line ", read)?;
+    push_line_of(
+        text,
+        " gave a record that the same task writes only later, on line ",
+        write,
+    )?;
+    push_words(text, ".\n")
+}
+
+/// How many operations and records there are, and whether the end is there.
+fn push_counts(text: &mut Vec<u8>, log: &WholeLog) -> Result<(), AllocError>
+    ensures { OnOk result (text.new.items ≡ text.old.items ++ counts_text log.now) }
+{
+    push_count(text, log.ops.len(), " operations, ")?;
+    push_count(text, log.unfinished, " unfinished, ")?;
+    push_count(text, log.records, " records, ")?;
+    push_count(text, log.read, " of them read")?;
+    push_end(text, log.ended)
+}
+
+#[tactic(auto, using(std::proofs::Common::append_assoc))]
+fn push_count(text: &mut Vec<u8>, number: usize, words: &str) -> Result<(), AllocError>
+    ensures { OnOk result (text.new.items ≡ text.old.items ++ count_text number words.now) }
+{
+    push_u64(text, "", number as u64)?;
+    push_words(text, words)
+}
+
+/// That the end isn't there, if so.
+fn push_end(text: &mut Vec<u8>, ended: bool) -> Result<(), AllocError>
+    ensures { OnOk result (text.new.items ≡ text.old.items ++ end_text ended) }
+{
+    if ended {
+        push_words(text, "\n")
+    } else {
+        push_words(text, "; no last line `done`\n")
+    }
+}
