@@ -156,7 +156,7 @@ stated_numbers() {
 # first.
 command_for() {
     case $1 in
-    examples/*) awk -F'|' -v name="\`${1#examples/}\`" '{ gsub(/ /, "", $2) } $2 == name { gsub(/ /, "", $3); print $3 }' examples/README.md ;;
+    examples/*) awk -F'|' -v name="\`${1#examples/}\`" '{ gsub(/ /, "", $2) } $2 == name { gsub(/^ | $/, "", $3); print $3 }' examples/README.md ;;
     tests/programs/races/*) echo race ;;
     *) echo play ;;
     esac

@@ -4,8 +4,9 @@
 
 for document in examples/*.json examples/*.jsonl tests/programs/schedules/*.json tests/programs/races/*.json; do
     command=$(command_for "$document")
-    sees "$document" fsr "$document" "${document%.json*}.txt" "$command"
-    [ "$command" = race ] || sees "$document, by fsr_$command" "fsr_$command" "$document" "${document%.json*}.txt"
+    small=fsr_${command#order --}
+    sees "$document" fsr "$document" "${document%.json*}.txt" $command
+    [ "$command" = race ] || sees "$document, by $small" "$small" "$document" "${document%.json*}.txt"
 done
 
 # The controls: the first document beside another's text, with a status that it hasn't, and with more on the other stream.

@@ -62,6 +62,12 @@ refuses_unread error: order --ordr
 refuses_unread error: order --order --order
 refuses_unread error: order --strict --strict
 refuses_unread error: check --strict
+refuses_unread error: check --coherent
+refuses_unread error: order --coherent --coherent
+for flag in --order --small --strict '--budget 5' '--budget 10000'; do
+    refuses_unread "error: --coherent goes with no other flag of fsr order" order --coherent $flag
+done
+refuses_unread "error: --coherent goes with no other flag of fsr order" order --order --coherent examples/lines.jsonl
 for number in '' 0 1000000001 -1 1.5 ten 18446744073709551617; do
     refuses_unread error: order --budget $number
 done
@@ -168,6 +174,7 @@ catches_in_tree "another word in a man page" "docs/man/fsr.1 says other words" d
 completes_to order fsr or
 completes_to '--small --strict' fsr order --s
 completes_to --budget fsr order --b
+completes_to --coherent fsr order --c
 completes_to examples/lawful.json fsr check examples/lawful.j
 
 # Sees that `fsr` ends with this status and has what stands in $room/wanted on this stream and nothing on the other. Its input is a folder,
@@ -197,7 +204,7 @@ reads_file() {
     cp "${2%.json*}.txt" "$room/wanted"
     wanted_status=0
     [ ! -f "${2%.json*}.status" ] || wanted_status=$(cat "${2%.json*}.status")
-    if [ "$wanted_status" -ge 2 ]; then ends_fsr "$wanted_status" err "$1" "$2"; else ends_fsr "$wanted_status" out "$1" "$2"; fi
+    if [ "$wanted_status" -ge 2 ]; then ends_fsr "$wanted_status" err $1 "$2"; else ends_fsr "$wanted_status" out $1 "$2"; fi
 }
 
 reads_file check examples/lawful.json
@@ -206,6 +213,8 @@ reads_file order examples/crossed.json
 reads_file order examples/lines.jsonl
 reads_file order examples/lines_early.jsonl
 reads_file order examples/lines_touching.jsonl
+reads_file 'order --coherent' examples/lines_coherent_circle.jsonl
+reads_file 'order --coherent' examples/lines_coherent_repeats.jsonl
 reads_file play examples/cell.json
 reads_file race examples/race.json
 echo "fsr: can't open $room/nowhere" >"$room/wanted"
@@ -450,6 +459,7 @@ make_small() {
 }
 make_small fsr_check 'echo "fsr: document: not JSON" >&2; exit 3'
 make_small fsr_order 'echo "order $*"'
+make_small fsr_coherent 'echo "coherent $*"'
 make_small fsr_play 'echo "play $*"; exit 1'
 make_small fsr_watch 'echo "watch $*"'
 
@@ -472,6 +482,7 @@ answers_small 0 "order --order" "$room/stale.jsonl" order --order "$room/stale.j
 answers_small 0 "order --small" "$room/stale.jsonl" order "$room/stale.jsonl" --small
 answers_small 0 "order --strict" "$room/stale.jsonl" order "$room/stale.jsonl" --strict
 answers_small 0 "order --budget 20000" "$room/stale.jsonl" order --budget 20000 "$room/stale.jsonl"
+answers_small 0 "coherent " "$room/stale.jsonl" order --coherent "$room/stale.jsonl"
 answers_small 0 "order " examples/lawful.json order
 answers_small 1 "play " examples/cell.json play
 answers_small 0 "watch " "$room/stale.jsonl" watch
@@ -496,7 +507,7 @@ catches "a closed standard error that isn't heeded" "it ended with status 70" an
 mv "$room/bare/build/build.sh.kept" "$room/bare/build/build.sh"
 
 # Words that no smaller program knows are for the whole one.
-for words in 'order --order --small' 'order --budget' 'order --budget 1x' 'order -x' 'check --order' "check $room/nowhere"; do
+for words in 'order --order --small' 'order --coherent --order' 'order --strict --coherent' 'order --budget' 'order --budget 1x' 'order -x' 'check --order' "check $room/nowhere"; do
     gives_unbuilt 70 '' 'build: ' $words
 done
 

@@ -37,6 +37,7 @@ fn serve<R: Threads + Sync, I: Source, O: Sink, E: Sink>(
 {
     match request {
         Request::Answer(want) => run::<Boards, _, _, _, _>(rt, alloc, want, input, out, faults),
+        Request::Coherent => fsr_coherent_answers::run(alloc, input, out, faults),
         Request::Watch { budget } => fsr_watch_answers::run(alloc, budget, input, out, faults),
     }
 }

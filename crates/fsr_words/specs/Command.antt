@@ -1,6 +1,6 @@
 -- The command that the words name, as clap matches them (this project's own).
-use Rattle.std.specs.Prelude.{◌≡◌, ◌⊎◌, ℕ, Bool, List, codes, true, false, Option, Some, None}
-use Rattle.std.specs.Prelude.{option_and_then, unwrap_or, if◌then◌else◌}
+use Rattle.std.specs.Prelude.{◌≡◌, ◌⊎◌, ◌||◌, ℕ, Bool, List, codes, true, false, Option, Some, None}
+use Rattle.std.specs.Prelude.{is_some, option_and_then, unwrap_or, if◌then◌else◌}
 use Rattle.std.specs.Str.{bytes_eq}
 use Rattle.clap.specs.Words.{App, Row, Rule, Shape, Text, first_of, new_app, new_rule, with_rule}
 use Rattle.clap.specs.Words.{with_subcommand, fault_of, subcommand_of}
@@ -16,7 +16,7 @@ use Rattle.clap.specs.declared.error.kind.ErrorKind.TheVariants.{DisplayHelp, Di
 use Rattle.fsr_words.specs.declared.command.NoCommand.{NoCommand}
 use Rattle.fsr_words.specs.declared.command.NoCommand.TheVariants.{Refused, Unknown, NoMemory}
 use Rattle.fsr_words.specs.declared.command.Request.{Request}
-use Rattle.fsr_words.specs.declared.command.Request.TheVariants.{Answer, Watch}
+use Rattle.fsr_words.specs.declared.command.Request.TheVariants.{Answer, Coherent, Watch}
 use Rattle.fsr_words.specs.declared.command.Want.TheVariants.{Check, Order, Play, Race}
 
 -- a subcommand that may have the name of a file
@@ -38,7 +38,8 @@ budget = record (new_rule (codes "budget")) {
 
 abbrev pub with_flags : App → App
 with_flags app =
-    with_rule (with_rule (with_rule app (flag (codes "order"))) (flag (codes "small"))) (flag (codes "strict"))
+    with_rule (with_rule (with_rule (with_rule app (flag (codes "order"))) (flag (codes "small")))
+    (flag (codes "strict"))) (flag (codes "coherent"))
 
 -- the subcommand that may be told what to print, and how to judge
 abbrev pub over_a_log : Shape
@@ -85,9 +86,19 @@ show_in rows = record {
   budget = budget_in rows;
 }
 
+-- another flag of the command `order` than that of coherence is there
+abbrev pub has_others : List Row → Bool
+has_others rows = is_told (codes "order") rows || is_told (codes "small") rows || is_told (codes "strict") rows
+    || is_some (first_of (codes "budget") rows)
+
+-- coherence is asked for alone
+abbrev pub order_in : List Row → Option Request
+order_in rows = if is_told (codes "coherent") rows then (if has_others rows then None else Some Coherent)
+    else Some (Answer (Order (show_in rows)))
+
 abbrev pub request_named : Text → List Row → Option Request
 request_named name rows = if bytes_eq name (codes "check") then Some (Answer Check)
-    else (if bytes_eq name (codes "order") then Some (Answer (Order (show_in rows)))
+    else (if bytes_eq name (codes "order") then order_in rows
     else (if bytes_eq name (codes "play") then Some (Answer Play)
     else (if bytes_eq name (codes "race") then Some (Answer Race)
     else (if bytes_eq name (codes "watch") then Some (Watch (budget_in rows))

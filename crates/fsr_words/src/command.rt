@@ -1,7 +1,9 @@
-ghost use Rattle.std.specs.Prelude.{◌≡◌, ◌≢◌, None, Some, false, map, option_map, unwrap_or, IfOk, IfErr};
-ghost use Rattle.clap.specs.Words.{app_of, found_of, rows_of, rule_of, subcommand_rows_of, with_subcommand};
+ghost use Rattle.std.specs.Prelude.{◌≡◌, ◌≢◌, None, Some, codes, false, is_some, map, option_map, unwrap_or};
+ghost use Rattle.std.specs.Prelude.{IfOk, IfErr};
+ghost use Rattle.clap.specs.Words.{app_of, first_of, found_of, rows_of, rule_of, subcommand_rows_of, with_subcommand};
 ghost use Rattle.fsr_words.specs.Command.{fsr, budget, budget_in, command_of, file_in, file_of, flag, is_told};
 ghost use Rattle.fsr_words.specs.Command.{over_a_coming_log, over_a_document, over_a_log, request_in, request_named};
+ghost use Rattle.fsr_words.specs.Command.{has_others, order_in};
 ghost use Rattle.fsr_words.specs.Command.{show_in, with_documents};
 ghost use Rattle.fsr_words.specs.Command.{budget_named, Refuses};
 ghost use Rattle.program_runs.specs.Shows.{usual_budget};
@@ -27,6 +29,8 @@ pub enum Want {
 pub enum Request {
     /// A command over a document.
     Answer(Want),
+    /// Whether a log is coherent.
+    Coherent,
     /// To watch a log as it comes, of which so many configurations may be held.
     Watch { budget: usize },
 }
@@ -43,7 +47,7 @@ pub struct Asked<'a> {
 pub enum NoCommand {
     /// Among them requests for help and for the version.
     Refused(Error),
-    /// The line has a subcommand that no command stands for.
+    /// Together the words ask for what no command does.
     Unknown,
     NoMemory,
 }
@@ -87,6 +91,9 @@ fn with_order<'a>(alloc: Global, line: Command<'a>) -> Result<Command<'a>, Alloc
     let strict = flag(alloc, "strict").help(
         "Of a log in lines status 8 in place of 0 if a lawful one shows nothing or little",
     );
+    let coherent = flag(alloc, "coherent").help(
+        "Of a log in lines, whether an order suits each task by itself, without a clock",
+    );
     let budget = budget(alloc).help(
         "Of a log whose records repeat, how many configurations may be held: 1 to 1000000000, else 10000",
     );
@@ -96,6 +103,7 @@ fn with_order<'a>(alloc: Global, line: Command<'a>) -> Result<Command<'a>, Alloc
         .arg(order)?
         .arg(small)?
         .arg(strict)?
+        .arg(coherent)?
         .arg(budget)?;
     line.subcommand(command)
 }
@@ -188,13 +196,45 @@ fn request_named(name: &str, found: &ArgMatches<'_>) -> Option<Request>
 {
     match name {
         "check" => Some(Request::Answer(Want::Check)),
-        "order" => Some(Request::Answer(Want::Order(show_in(found)))),
+        "order" => order_in(found),
         "play" => Some(Request::Answer(Want::Play)),
         "race" => Some(Request::Answer(Want::Race)),
         "watch" => Some(Request::Watch {
             budget: budget_in(found),
         }),
         _ => None,
+    }
+}
+
+/// What the command `order` is asked for. Coherence is asked for alone.
+fn order_in(found: &ArgMatches<'_>) -> Option<Request>
+    ensures { result ≡ order_in (rows_of (found_of found.now)) }
+{
+    if !is_told(found, "coherent") {
+        Some(Request::Answer(Want::Order(show_in(found))))
+    } else if has_others(found) {
+        None
+    } else {
+        Some(Request::Coherent)
+    }
+}
+
+/// Whether another flag than that of coherence is there.
+fn has_others(found: &ArgMatches<'_>) -> bool
+    ensures { result ≡ has_others (rows_of (found_of found.now)) }
+{
+    is_told(found, "order")
+        || is_told(found, "small")
+        || is_told(found, "strict")
+        || has_budget(found)
+}
+
+fn has_budget(found: &ArgMatches<'_>) -> bool
+    ensures { result ≡ is_some (first_of (codes "budget") (rows_of (found_of found.now))) }
+{
+    match found.get_str("budget") {
+        Some(_) => true,
+        None => false,
     }
 }
 

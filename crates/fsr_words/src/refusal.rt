@@ -31,7 +31,13 @@ pub fn tell_refusal<O: Sink, E: Sink>(
             tell(faults, program.no_memory);
             Exit::NoMemory.status()
         }
-        NoCommand::Unknown => Exit::NoCommand.status(),
+        NoCommand::Unknown => {
+            tell(
+                faults,
+                "error: --coherent goes with no other flag of fsr order\n",
+            );
+            Exit::NoCommand.status()
+        }
         NoCommand::Refused(e) => tell_error(alloc, program, &e, out, faults),
     }
 }

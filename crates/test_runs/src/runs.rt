@@ -36,6 +36,7 @@ fn run<'a, R: Threads + Sync, I: Source, O: Sink, E: Sink>(
             Request::Answer(want) => fsr_answers::run::<FourSlotFamily<Posted<Band>>, R, I, O, E>(
                 rt, alloc, want, input, out, faults,
             ),
+            Request::Coherent => fsr_coherent_answers::run(alloc, input, out, faults),
             Request::Watch { budget } => {
                 fsr_watch_answers::run(alloc, budget, input, out, faults)
             }
