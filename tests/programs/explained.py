@@ -40,6 +40,10 @@ HALVES = [1, 0x1111111122222222]
 BY_HAND = [
     (TORN, [], ["line 5: who 1, a read from 45 to 70: [3,12,22]", "  word 0 of line 4", "  words 1, 2 of line 3",
                 SECOND + "the last that had ended before it", THIRD + "ran with it"]),
+    # floors say nothing of an operation
+    (TORN.replace('{"kind":"done"', line(kind="floor", begin=71) + '{"kind":"done"'), [],
+     ["line 5: who 1, a read from 45 to 70: [3,12,22]", "  word 0 of line 4", "  words 1, 2 of line 3",
+      SECOND + "the last that had ended before it", THIRD + "ran with it"]),
     # at both of its ends an operation runs with what touches it
     (WRITES + op(1, "read", 40, 50, [9, 9], words=[8, 12, 23]), ["5"],
      ["line 5: who 1, a read from 40 to 50: [8,12,23]", "  word 0 8: of no write", "  word 1 of line 3", "  word 2 of line 4",
@@ -103,7 +107,7 @@ def wanted_of(text, words, said):
         return 3, "", said
     if said is None:
         return 0, NONE, ""
-    ops = len([it for it in text.split("\n")[1:] if it and '"done"' not in it])
+    ops = len([it for it in text.split("\n")[1:] if it and '"done"' not in it and '"floor"' not in it])
     count = [] if words else [f"1 of {ops} operations have a record that is neither the opening nor written. The first:"]
     return 0, "".join(f"{it}\n" for it in [*count, *said]), ""
 

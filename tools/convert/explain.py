@@ -4,8 +4,8 @@
     explain.py LOG [LINE..]
 
 Each LINE is an operation's, as the answer of `fsr order` names it; without one, the operations whose records nobody wrote are counted, and
-the first is explained. The log is the one that was judged. The recorder keeps the first words of each record beside its hash, as `"words"`;
-where none stand, a record that is an array or a number is taken for its words.
+the first is explained. The log is the one that was judged; floors are passed over. The recorder keeps the first words of each record beside
+its hash, as `"words"`; where none stand, a record that is an array or a number is taken for its words.
 
 What is said of a word: from which write it is, or that it isn't any write's. If several writes have it, the one is told that has most of
 these words, and of such ones the latest. A word of no write may be the first bytes of one write's and the last bytes of another's. Then the
@@ -67,7 +67,7 @@ class Log:
     def __init__(self, path):
         rows = ((line, row_of(line, text)) for line, text in enumerate(lines.text_of_file(path).split("\n"), 1) if text.strip())
         opening = opening_of(next(rows, (1, {}))[1])
-        self.ops = {line: operation_of(line, row) for line, row in rows if row.get("kind") != "done"}
+        self.ops = {line: operation_of(line, row) for line, row in rows if row.get("kind") not in ("done", "floor")}
         self.writes = [opening, *(it for it in self.ops.values() if it.kind == "write")]
         self.written = {it.record: it for it in self.writes}
 
