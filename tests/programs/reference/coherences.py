@@ -151,11 +151,7 @@ def is_right(data, found):
 
 
 def main(words):
-    if words:
-        with open(words[0], "rb") as file:
-            data = file.read()
-    else:
-        data = sys.stdin.buffer.read()
+    data = documents.bytes_asked_for(words)
     text, line, status = answer(data)
     sys.stdout.write("incoherent\n" if text is None else text)
     sys.stderr.write(line)

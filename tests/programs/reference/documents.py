@@ -1,6 +1,7 @@
 """The way from bytes to a document, as docs/FORMATS.md says it, or the first refusal."""
 
 import json
+import sys
 
 GREATEST = 2**64 - 1
 MAX_LIMIT = GREATEST - 1
@@ -9,6 +10,14 @@ MAX_DEPTH = 127
 MAX_STEPS = 100000
 MAX_OPERATIONS = 10000
 BLANKS = " \t\n\r"
+
+
+def bytes_asked_for(words):
+    """The bytes of the file that is named, or else of the standard input."""
+    if not words:
+        return sys.stdin.buffer.read()
+    with open(words[0], "rb") as file:
+        return file.read()
 
 
 class Refused(Exception):

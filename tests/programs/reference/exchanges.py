@@ -235,11 +235,7 @@ def answer(data):
 
 
 def main(words):
-    if words:
-        with open(words[0], "rb") as file:
-            data = file.read()
-    else:
-        data = sys.stdin.buffer.read()
+    data = documents.bytes_asked_for(words)
     if not has_repeats(data):
         print("exchanges: this is no log whose records repeat", file=sys.stderr)
         return 3

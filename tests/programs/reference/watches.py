@@ -8,6 +8,7 @@ At most 7 operations are judged by all orders, more of them by a search that rem
 import collections
 import sys
 
+import documents
 import exchanges
 from exchanges import must
 from small_lines import Fault, is_whole, value_of
@@ -125,11 +126,7 @@ def answers(data):
 
 
 def main(words):
-    if words:
-        with open(words[0], "rb") as file:
-            data = file.read()
-    else:
-        data = sys.stdin.buffer.read()
+    data = documents.bytes_asked_for(words)
     texts, line, status = answers(data)
     sys.stdout.write(texts[0])
     sys.stderr.write(line)
