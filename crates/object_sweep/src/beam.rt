@@ -1,6 +1,6 @@
 //! A sweep that holds few configurations: it may find a lawful order where there are too many to hold them all.
 
-ghost use Rattle.std.specs.Prelude.{◌≡◌, IfOk, OnOk, true};
+ghost use Rattle.std.specs.Prelude.{◌≡◌, ◌<◌, IfOk, OnOk, true};
 ghost use Rattle.object_sweep.specs.Rests.{RunForwards};
 ghost use Rattle.object_sweep.specs.inner.Beams.{AreLeftOf, IsFirstMark, IsMarkOf, IsNarrow, MayHaveMarked};
 ghost use Rattle.object_sweep.specs.inner.Ends.{IsNarrowlyPassed};
@@ -9,7 +9,7 @@ ghost use Rattle.object_sweep.specs.inner.Events.{AreEvents};
 use crate::event::Event;
 use crate::front::{Front, Mark, copied_front, first_front};
 use crate::log_sweep::Verdict;
-use crate::narrow::{NARROW, Passed, pass_narrowly};
+use crate::narrow::{NARROW, Passed, is_unfinished, pass_narrowly};
 use crate::places::{is_in, without};
 use object_core::{Object, Operation};
 use std::alloc::{AllocError, Global};
@@ -20,8 +20,10 @@ const WIDEST: usize = 512;
 const GROWS_BY: usize = 4;
 /// The events from one mark to the next.
 const MARK_EVERY: usize = 512;
-/// How often an event may be passed, in the mean.
+/// How often an event may be passed, in the mean, where few are held.
 const PASSES: usize = 2;
+/// How many operations that have an end may be under way at once.
+const MOST_AT_ONCE: usize = 24;
 
 /// What one event leads to.
 #[derive(Clone, Copy, PartialEq, Eq, Drop)]
@@ -192,6 +194,25 @@ fn last_whole<O: Object>(
     first_mark(alloc, opening)
 }
 
+/// What an event counts at which so many configurations are held: they are compared with each other.
+const fn cost_of(held: usize) -> usize
+    ensures { 0 < result }
+{
+    let times = held / NARROW;
+    let square = times.saturating_mul(times);
+    if square == 0 { 1 } else { square }
+}
+
+/// Whether so many operations are under way at once that few configurations won't do.
+fn is_crowded<W>(log: &[Operation<W>], under_way: &[usize]) -> bool {
+    under_way.len() > MOST_AT_ONCE
+        && under_way
+            .iter()
+            .filter(|place| !is_unfinished(log, **place))
+            .count()
+            > MOST_AT_ONCE
+}
+
 /// Sweeps with few configurations. Where nothing is left it goes back to a mark, and is wider for a while.
 pub(crate) fn sweep_narrowly<O: Object>(
     alloc: Global,
@@ -209,7 +230,10 @@ pub(crate) fn sweep_narrowly<O: Object>(
     let mut beam = Beam::narrow();
     let mut left = events.len().saturating_mul(PASSES);
     while at.done < events.len() && left > 0 && beam.width <= budget.min(WIDEST) {
-        left -= 1;
+        if is_crowded(log, at.front.under_way.as_slice()) {
+            break;
+        }
+        left = left.saturating_sub(cost_of(at.front.configurations.len()));
         let event = &events[at.done];
         match pass_event_narrowly(alloc, log, event, beam.width, &mut at.front)? {
             Passing::On => {

@@ -25,7 +25,7 @@ pub(crate) struct Passed<O> {
 }
 
 /// Whether an operation never ended.
-fn is_unfinished<W>(log: &[Operation<W>], place: usize) -> bool {
+pub(crate) fn is_unfinished<W>(log: &[Operation<W>], place: usize) -> bool {
     match log.get(place) {
         Some(op) => op.ends.is_none(),
         None => false,
