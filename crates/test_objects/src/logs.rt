@@ -249,8 +249,8 @@ fn budgets(rt: HostRuntime) {
 }
 
 /// Of eleven writes side by side more than 600 configurations are reached at the first end, which is that of place 1.
-/// Yet few that are held are enough to find that a read may have what the one that ended last left; that it may not have
-/// a record that none left, only all of them show.
+/// Yet few that are held are enough to find that a read may have what the one that ended last left; that it may not
+/// have a record that none left, only all of them show.
 #[test]
 fn few_configurations_are_enough(rt: HostRuntime) {
     let alloc = rt.alloc();
