@@ -38,13 +38,13 @@ static nidzaru_side sides[16];
 
 /* The loop of a held read, over a triple buffer. */
 #define HOLD(cell)                                                                                              \
-    PASSES_ON pass_hold_##cell(nidzaru_side *r, const void **at, uint64_t *number) {                             \
+    PASSES_ON pass_hold_##cell(nidzaru_side *r, nidzaru_lent *at, uint64_t *number) {                            \
         const uint32_t status = nidzaru_##cell##_look(r, number);                                                \
         return status ? status : nidzaru_##cell##_hold(r, at);                                                   \
     }                                                                                                            \
     static int hold_##cell(long calls) {                                                                         \
         uint64_t number;                                                                                         \
-        const void *at = record;                                                                                 \
+        nidzaru_lent at = {record, 0};                                                                           \
         if (nidzaru_##cell##_make(record, &sides[0], &sides[1])) return 1;                                       \
         for (long i = 0; i < calls; ++i)                                                                         \
             if (pass_hold_##cell(&sides[1], &at, &number)) return 1;                                             \
@@ -53,12 +53,12 @@ static nidzaru_side sides[16];
 
 /* The loop of a write in place, over a triple buffer. */
 #define LOAN(cell)                                                                                              \
-    PASSES_ON pass_loan_##cell(nidzaru_side *w, void **at) {                                                     \
+    PASSES_ON pass_loan_##cell(nidzaru_side *w, nidzaru_lent *at) {                                              \
         const uint32_t status = nidzaru_##cell##_loan(w, at);                                                    \
         return status ? status : nidzaru_##cell##_publish(w);                                                    \
     }                                                                                                            \
     static int loan_##cell(long calls) {                                                                         \
-        void *at = record;                                                                                       \
+        nidzaru_lent at = {record, 0};                                                                           \
         if (nidzaru_##cell##_make(record, &sides[0], &sides[1])) return 1;                                       \
         for (long i = 0; i < calls; ++i)                                                                         \
             if (pass_loan_##cell(&sides[0], &at)) return 1;                                                      \

@@ -2,7 +2,8 @@
 triple buffer three more, and for each family and size of a board's record the same five. And of crates/c_handles what is made for each side
 and place (handles.py).
 
-    exports.py write     writes them: crates/c_exports/src/exports.rt and exports/, the answers for each loan, and the files of crates/c_handles
+    exports.py write     writes them: crates/c_exports/src/exports.rt and exports/, the answers for each hold and loan, and the
+                         files of crates/c_handles
     exports.py check     compares them, and what c/nidzaru.h declares and c/tests/control.c has, with the text below
 """
 
@@ -35,7 +36,7 @@ HEAD = """//! The exports: for each cell and size a make, a write, a read, a loo
 """
 
 TEXT = """//! {words} with records of {bytes} bytes.
-ghost use Rattle.c_registers.specs.{specs}.{{IsMade, HasWritten, HasRead{holds}}};
+{record}ghost use Rattle.c_registers.specs.{specs}.{{IsMade, HasWritten, HasRead{holds}}};
 ghost use Rattle.c_registers.specs.Handles.{{holding, IsMake, IsWrite, IsRead, IsLook, {is_hold}IsEnd}};
 
 use c_handles::handles::{{{name}_reader_{size}, {name}_writer_{size}}};
@@ -106,24 +107,30 @@ pub extern "C" fn nidzaru_{prefix}{size}_end_reader(alloc: Global, reader: &mut 
 
 HOLD_TEXT = """
 #[unsafe(no_mangle)]
-pub extern "C" fn nidzaru_{prefix}{size}_hold<'a>(reader: &'a mut {name}_reader_{size}::Handle, at: &mut &'a Record{size}) -> u32
-    ensures {{ IsHold {reads} (λ g. record {{ it = g }}) at_hand
+pub extern "C" fn nidzaru_{prefix}{size}_hold<'a>(reader: &'a mut {name}_reader_{size}::Handle, at: &mut &'a [u64]) -> u32
+    ensures {{ IsHold {reads} (λ g. record {{ it = g }}) (λ g. (at_hand {{W = Record{size}}} g).words.words)
         (holding reader.old.live reader.old.loose.side) at.old.now at.new.now result }}
 {{
     let live = reader.live;
-    hold::<{type}Reader{size}, {name}_reader_{size}::Loose, Record{size}>(&mut reader.loose, {reads}, live, at).status
+    match hold::<{type}Reader{size}, {name}_reader_{size}::Loose, Record{size}>(&mut reader.loose, {reads}, live) {{
+        Err(status) => status,
+        Ok(record) => {{
+            *at = record.words.as_slice();
+            DONE
+        }}
+    }}
 }}
 
 #[unsafe(no_mangle)]
-pub extern "C" fn nidzaru_{prefix}{size}_loan<'a>(writer: &'a mut {name}_writer_{size}::Handle, at: &mut &'a mut Record{size}) -> u32
-    ensures {{ IsHold {writes} (λ p. record {{ it = p }}) in_slot
+pub extern "C" fn nidzaru_{prefix}{size}_loan<'a>(writer: &'a mut {name}_writer_{size}::Handle, at: &mut &'a mut [u64]) -> u32
+    ensures {{ IsHold {writes} (λ p. record {{ it = p }}) (λ p. (in_slot {{W = Record{size}}} p).words.words)
         (holding writer.old.live writer.old.loose.side) at.old.now at.new.now result }}
 {{
     let live = writer.live;
     match slot::<{type}Writer{size}, {name}_writer_{size}::Loose, Record{size}>(&mut writer.loose, {writes}, live) {{
         Err(status) => status,
-        Ok(words) => {{
-            *at = words;
+        Ok(record) => {{
+            *at = record.words.as_mut_slice();
             DONE
         }}
     }}
@@ -222,6 +229,7 @@ def export(size, cell):
         "writes": code_of(f"{cell['name']}_writer_{size}"),
         "reads": code_of(f"{cell['name']}_reader_{size}"),
         "structs": ", ".join(sorted([f"Record{size}", f"{cell['type']}Reader{size}", f"{cell['type']}Writer{size}"])),
+        "record": f"ghost use Rattle.c_handles.specs.declared.record.Record{size}.{{Record{size}}};\n" if cell["holds"] else "",
         "is_hold": "IsHold, IsPublish, " if cell["holds"] else "",
         "names": ", ".join(sorted([*(["DONE"] if cell["holds"] else []), f"{cell['type']}Reader", f"{cell['type']}Writer"]) + sorted(calls)),
         **cell,
@@ -239,9 +247,10 @@ def made():
     """The files by their names below crates/."""
     files = {f"c_exports/src/{name}": text for name, text in exports().items()}
     files.update({f"c_handles/{name}": text for name, text in handles.made().items()})
-    answers = read(handles.TEMPLATES, "loan_answers.antt.template")
-    for size in SIZES:
-        files[f"c_exports/proofs/exports/triple_{size}/nidzaru_triple_{size}_loan/Answers.antt"] = answers.replace("@FILE@", f"triple_{size}")
+    for call in ("hold", "loan"):
+        answers = read(handles.TEMPLATES, f"{call}_answers.antt.template")
+        for size in SIZES:
+            files[f"c_exports/proofs/exports/triple_{size}/nidzaru_triple_{size}_{call}/Answers.antt"] = answers.replace("@FILE@", f"triple_{size}")
     return {name: MADE[os.path.splitext(name)[1]] + text for name, text in files.items()}
 
 

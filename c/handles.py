@@ -1,6 +1,6 @@
 """What crates/c_handles has for each side and place that C may have: a struct of its own with just that side (side.rt), the handle that
-C passes, whose box is an erased pointer (handles/), and the proofs that are made by hand once and differ by these names alone
-(proofs/). `c/exports.py` writes and compares them.
+C passes, whose box is an erased pointer (handles/), and the proofs, which cite one lemma for all of them (proofs/AnyLoose) at the row
+of each (proofs/Rows). `c/exports.py` writes and compares them.
 
 A handle's `live` is the number of its type where it has a side. 0 is no side, and 255 a call that runs or was cut off."""
 
@@ -22,6 +22,9 @@ PLACES = (
     ("TriplePlace", "triple_place", "TripleSeat{size}", "a place at a board over triple buffers"),
 )
 
+# The functions of a handle whose proofs cite a lemma: where each stands below the handle's module, and its lemma's file in proofs/AnyLoose.
+CITES = (("Loose.take", "Take"), ("Loose.put", "Put"), ("LooseHolds{struct}.reach", "Reach"))
+
 
 def kinds():
     """Each kind of side: its struct, its module, the type in it, its words and its number. A number never changes."""
@@ -41,13 +44,25 @@ def code_of(module):
     return next(kind["code"] for kind in kinds() if kind["module"] == module)
 
 
-def template(name, kind):
-    """A template with this side's names in it."""
+def template(name, words):
+    """A template with these words in it, as a side's names."""
     with open(os.path.join(TEMPLATES, f"{name}.template"), encoding="utf-8") as file:
         text = file.read()
-    for word in ("struct", "module", "words", "code"):
-        text = text.replace(f"@{word.upper()}@", kind[word])
+    for word, value in words.items():
+        text = text.replace(f"@{word.upper()}@", value)
     return text
+
+
+def proofs(kind):
+    """The proofs of one handle, and the row that they cite, by their names below proofs/."""
+    files = {f"Rows/{kind['module']}.antt": template("row.antt", kind)}
+    here = f"handles/{kind['module']}"
+    for path, lemma in CITES:
+        place = path.format(**kind)
+        words = {"lemma": lemma, "place": place, "function": place.rpartition(".")[2]}
+        files[f"{here}/{place.replace('.', '/')}/Proof.antt"] = template("proof.antt", {**kind, **words})
+    files[f"{here}/Loose/TheSendSync/Send.antt"] = template("Send.antt", kind)
+    return files
 
 
 SIDE_HEAD = """//! What a handle can have, each in a struct of its own.
@@ -117,10 +132,6 @@ def made():
     files["src/handles.rt"] = "//! The handles, a type for each side and place.\n\n" + "".join(f"pub mod {name};\n" for name in sorted(modules))
     for kind in kinds():
         files[f"src/handles/{kind['module']}.rt"] = template("handle.rt", kind)
-        files[f"proofs/{kind['struct']}Words.antt"] = template("Words.antt", kind)
-        loose = f"proofs/handles/{kind['module']}/Loose"
-        for function in ("lend", "into_parts", "of_parts", "empty_like"):
-            files[f"{loose}/{function}/Proof.antt"] = template(f"{function}.antt", kind)
-        files[f"{loose}/TheSendSync/Send.antt"] = template("Send.antt", kind)
-    files["proofs/Lib.antt"] = "".join(f"pub mod {kind['struct']}Words\n" for kind in kinds())
+        files.update({f"proofs/{name}": text for name, text in proofs(kind).items()})
+    files["proofs/Rows.antt"] = "".join(f"pub mod {name}\n" for name in modules)
     return files

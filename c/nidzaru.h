@@ -303,11 +303,17 @@ NIDZARU_DECLARE(triple_65536)
 NIDZARU_DECLARE(triple_1048576)
 #undef NIDZARU_DECLARE
 
-/* Of a triple buffer three more. The first two make *at, which leads to a whole record before, lead to the record of the last read or
- * look, and to the record in the writer's slot. The third one shows that one to the reader, under the next number. */
+/* The words of a record where they lie, and how many they are. */
+typedef struct nidzaru_lent {
+    uint64_t *at;
+    size_t count;
+} nidzaru_lent;
+
+/* Of a triple buffer three more. The first two, which are passed no words, make `at` those of the record of the last read or look, which
+ * nobody writes through it, and those of the record in the writer's slot. The third one shows that one to the reader, under the next number. */
 #define NIDZARU_DECLARE_HOLD(cell)                                                                                    \
-    uint32_t nidzaru_##cell##_hold(nidzaru_side *reader, const void **at);                                            \
-    uint32_t nidzaru_##cell##_loan(nidzaru_side *writer, void **at);                                                  \
+    uint32_t nidzaru_##cell##_hold(nidzaru_side *reader, nidzaru_lent *at);                                           \
+    uint32_t nidzaru_##cell##_loan(nidzaru_side *writer, nidzaru_lent *at);                                           \
     uint32_t nidzaru_##cell##_publish(nidzaru_side *writer);
 NIDZARU_DECLARE_HOLD(triple_8)
 NIDZARU_DECLARE_HOLD(triple_24)
@@ -471,59 +477,43 @@ NIDZARU_CHECKED int nidzaru_sized_look(int triple, size_t size, nidzaru_handle *
      : (size) == 65536 ? nidzaru_triple_65536_##call arguments                                                        \
                        : nidzaru_triple_1048576_##call arguments)
 
-/* Before the call *at leads to a whole record of the library, which nobody writes. */
+/* Makes *at lead to the record of the last read or look. */
 NIDZARU_CHECKED int nidzaru_sized_hold(size_t size, nidzaru_handle *r, const void **at, uint64_t *number) {
-    const void *held = *at;
-    uint64_t given = 0;
+    uint64_t given = 0, none = 0;
+    nidzaru_lent held = {&none, 0};
     uint32_t status;
     nidzaru_begin(r);
     nidzaru_let_go(r);
     status = NIDZARU_PICK(1, size, look, (&r->side, &given));
     if (!status) status = NIDZARU_PICK_TRIPLE(size, hold, (&r->side, &held));
     nidzaru_see(r);
-    if (!status) nidzaru_keep(r, held);
+    if (!status) nidzaru_keep(r, held.at);
     nidzaru_heed();
     NIDZARU_FILLED(&status, sizeof status);
     if (!status) {
         NIDZARU_FILLED(&given, sizeof given);
         NIDZARU_FILLED(&held, sizeof held);
-        NIDZARU_FILLED(held, size);
-        *at = held;
+        NIDZARU_FILLED(held.at, size);
+        *at = held.at;
         *number = given;
     }
     return NIDZARU_TO(int, status);
 }
 
-/* Makes *at lead to the writer's slot. The library is passed what leads to a record of this call's own. The functions for large records
- * aren't inlined, so that no other one takes their room on the stack. */
-#define NIDZARU_LOAN_OVER(bytes, apart)                                                                               \
-    __attribute__((unused, warn_unused_result)) static apart uint32_t nidzaru_loan_over_##bytes(                      \
-        size_t size, nidzaru_side *side, void **at) {                                                                 \
-        uint64_t before[bytes / 8];                                                                                   \
-        void *lent = before;                                                                                          \
-        uint32_t status = NIDZARU_PICK_TRIPLE(size, loan, (side, &lent));                                             \
-        if (!status) *at = lent;                                                                                      \
-        return status;                                                                                                \
-    }
-NIDZARU_LOAN_OVER(4096, inline)
-NIDZARU_LOAN_OVER(65536, __attribute__((noinline)))
-NIDZARU_LOAN_OVER(1048576, __attribute__((noinline)))
-#undef NIDZARU_LOAN_OVER
-
+/* Makes *at lead to the writer's slot. */
 NIDZARU_CHECKED int nidzaru_sized_loan(size_t size, nidzaru_handle *w, void **at) {
-    void *lent = NIDZARU_NOWHERE;
+    uint64_t none = 0;
+    nidzaru_lent lent = {&none, 0};
     uint32_t status;
     nidzaru_begin(w);
-    status = size <= 4096    ? nidzaru_loan_over_4096(size, &w->side, &lent)
-             : size == 65536 ? nidzaru_loan_over_65536(size, &w->side, &lent)
-                             : nidzaru_loan_over_1048576(size, &w->side, &lent);
-    if (!status) nidzaru_take(lent);
+    status = NIDZARU_PICK_TRIPLE(size, loan, (&w->side, &lent));
+    if (!status) nidzaru_take(lent.at);
     nidzaru_heed();
     NIDZARU_FILLED(&status, sizeof status);
     if (!status) {
         NIDZARU_FILLED(&lent, sizeof lent);
-        NIDZARU_FILLED(lent, size);
-        *at = lent;
+        NIDZARU_FILLED(lent.at, size);
+        *at = lent.at;
     }
     return NIDZARU_TO(int, status);
 }
@@ -726,8 +716,7 @@ NIDZARU_CHECKED int nidzaru_move_handle(nidzaru_handle *to, nidzaru_handle *from
 #define NIDZARU_HOLD(name)                                                                                             \
     NIDZARU_ASSERT(NIDZARU_ALIGNMENT(name##_record) <= 8, "a record that is read where it lies is aligned to at most 8");   \
     NIDZARU_CHECKED int name##_hold(name##_reader *reader, const name##_record **at, uint64_t *number) {               \
-        static uint64_t before[NIDZARU_SIZE(sizeof(name##_record)) / 8];                                               \
-        const void *held = before;                                                                                     \
+        const void *held = NIDZARU_NOWHERE;                                                                            \
         int status;                                                                                                    \
         if (!reader || !at || !number) return NIDZARU_NULL;                                                            \
         if (nidzaru_is_copied(&reader->handle)) return NIDZARU_COPIED;                                                 \

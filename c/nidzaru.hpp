@@ -224,8 +224,7 @@ template <class T, cell C = cell::four_slot> class reader : detail::side {
     [[nodiscard]] const T *hold() noexcept {
         static_assert(C == cell::triple, "a four-slot cell's records are read into place: a triple buffer has hold()");
         static_assert(alignof(T) <= 8, "a record that is read where it lies is aligned to at most 8");
-        static std::uint64_t before[record::size / 8];
-        const void *at = before;
+        const void *at = nullptr;
         if (nidzaru_sized_hold(record::size, &handle, &at, &last)) return nullptr;
         return std::launder(static_cast<const T *>(at));
     }

@@ -1,6 +1,6 @@
 /* Large records, of WORDS words, over four slots, or with -DTRIPLE over a triple buffer: what a register gives is whole, and what its calls
- * take of the stack. A make takes no more than MAKE_RECORDS records, a loan one, and all other calls 32 KB, since they copy a record once,
- * from where it lies to where it is to lie. */
+ * take of the stack. A make takes no more than MAKE_RECORDS records, and all other calls 32 KB, since they copy a record once, from where it
+ * lies to where it is to lie, or not at all. */
 #include "nidzaru.h"
 #include <pthread.h>
 #include <stdio.h>
@@ -112,7 +112,7 @@ int main(void) {
     on_stack(ROOM + MAKE_RECORDS * sizeof(struct scan), make);
     on_stack(ROOM, call);
 #ifdef TRIPLE
-    on_stack(ROOM + sizeof(struct scan), lend);
+    on_stack(ROOM, lend);
     on_stack(ROOM, hold);
 #endif
     on_stack(ROOM, end);

@@ -62,29 +62,6 @@ test_freestanding_in_rust() {
     fi
 }
 
-# A program that holds a record of 8 KB takes no more of its memory for zeros than the next size of the library has.
-has_little_room() {
-    printf '%s\n' 'fn main() {' '    let (_writer, mut reader) = nidzaru::triple_register([0_u64; 1024]).unwrap();' \
-        '    println!("{}", reader.hold()[1023]);' '}' >"$room/rust/examples/held_room.rs"
-    if ! in_rust build --release --example held_room >"$room/said" 2>&1; then
-        fail "rust/nidzaru: the room of a held record" "it wasn't built: $(grep -m 1 '^error' "$room/said")"
-        return
-    fi
-    zeros=$(size "$room/target/release/examples/held_room" | awk 'NR == 2 { print $3 }')
-    if [ "$zeros" -lt 200000 ]; then
-        pass "rust/nidzaru: the room of a held record: $zeros bytes"
-    else
-        fail "rust/nidzaru: the room of a held record" "$zeros bytes"
-    fi
-}
-
-test_held_room() {
-    has_little_room
-    sed -i 's/any_record(size_of::<T>())/any_record(calls.size)/' "$room/rust/src/raw.rs"
-    catches "a record of 1 MB for each hold" '1[0-9]* bytes' has_little_room
-    cp rust/nidzaru/src/raw.rs "$room/rust/src/raw.rs" && rm "$room/rust/examples/held_room.rs"
-}
-
 # Sees that the pair of this word is a race.
 #   sees_race_in_rust WORD TITLE
 sees_race_in_rust() {
@@ -162,7 +139,6 @@ if command -v cargo >/dev/null 2>&1; then
     else
         pass "rust/nidzaru over an older library"
     fi
-    test_held_room
     test_oldest_rust
     test_freestanding_in_rust
     test_races_in_rust

@@ -70,12 +70,11 @@ module _ {D : Type 0} (code : ℕ) where
   abbrev pub IsSlotFilled : {P W : Type 0} → (P → D) → (P → W → P) → Holding D → Holding D → W → Type 0
   IsSlotFilled writes filled h k w = (p : _) × Has h (writes p) × Has k (writes (filled p w))
 
-  -- a call that makes what led to one record lead to the last answer's, or to the one in a writing side's slot, and its
-  -- status: the handle before, and the two records
-  pub data IsHold {G W : Type 0} (reads : G → D) (at_hand : G → Numbered W) (h : Holding D) (seen seen' : W) : ℕ →
-      Type 0 where
-    done : (g : G) → Has h (reads g) → seen' ≡ (at_hand g).words → IsHold reads at_hand h seen seen' 0
-    refused : {n : ℕ} → h.live ≢ code → LacksSide h.live n → seen' ≡ seen → IsHold reads at_hand h seen seen' n
+  -- a call that makes what led to some words lead to those of the last answer, or of a writing side's slot, and its
+  -- status: the handle before, and the words
+  pub data IsHold {G W : Type 0} (reads : G → D) (words : G → W) (h : Holding D) (seen seen' : W) : ℕ → Type 0 where
+    done : (g : G) → Has h (reads g) → seen' ≡ words g → IsHold reads words h seen seen' 0
+    refused : {n : ℕ} → h.live ≢ code → LacksSide h.live n → seen' ≡ seen → IsHold reads words h seen seen' n
 
   -- a call that ends a side, and its status
   pub data IsEnd (h k : Holding D) : ℕ → Type 0 where

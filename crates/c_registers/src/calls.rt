@@ -7,7 +7,7 @@ ghost use Rattle.std.specs.Borrow.{sem, follows_so, Lends, LendsSoOk};
 ghost use mathlib.Core.Option.{none};
 ghost use Rattle.c_registers.specs.Handles.{holding, busy, Has, LacksSide, IsMake, IsWrite};
 ghost use Rattle.c_registers.specs.Handles.{IsPublish, IsRead, IsLook, IsEnd};
-ghost use Rattle.c_registers.specs.Handles.{IsHold, IsBack, IsSlotFilled};
+ghost use Rattle.c_registers.specs.Handles.{IsBack, IsSlotFilled};
 ghost use Rattle.c_registers.specs.TripleCalls.{at_hand, in_slot, Stays, HasPublished, writer_with};
 ghost use Rattle.c_registers.specs.Numbers.{numbered};
 ghost use Rattle.c_registers.specs.declared.triple.TripleReader.{TripleReader};
@@ -228,40 +228,26 @@ pub fn look<D: Wraps<G>, L: Holds<D>, W: Copy, G: Reading<W>>(
     DONE
 }
 
-/// The status of a call that lends for `'a`.
-#[derive(Clone, Copy)]
-pub struct Lending<'a> {
-    pub status: u32,
-    pub until: [&'a (); 0],
-}
-
-/// Makes `at` lead to the record that a read or a look gave last, where it lies, until the side is used again.
+/// Lends the record that a read or a look gave last, where it lies, until the side is used again.
 #[inline]
 pub fn hold<'a, D: Wraps<TripleReader<W>> + 'a, L: Holds<D>, W: Copy + 'a>(
     loose: &'a mut L,
     code: u64,
     live: u64,
-    at: &mut &'a W,
-) -> Lending<'a>
+) -> Result<&'a W, u32>
     requires { live ≡ code → L.full loose.old ≡ true }
     ensures* back { sem 𝓛
         (follows_so L.row L.row loose.entry.ghost_name none (λ _ _. ⊤) (λ l. (L.full l ≡ L.full loose.old)
         × IsBack code D.side Stays (holding live (L.side loose.old)) (holding live (L.side l)))) }
-    ensures hold { IsHold code D.side at_hand (holding live (L.side loose.old)) at.old.now at.new.now result.status }
+    ensures ok { IfOk result (λ at. (g : TripleReader W) × Has code (holding live (L.side loose.old)) (D.side g)
+        × (at.now ≡ (at_hand g).words)) }
+    ensures err { IfErr result (λ n. (live ≢ code) × LacksSide live n) }
 {
     if live != code {
-        return Lending {
-            status: lacks(live),
-            until: [],
-        };
+        return Err(lacks(live));
     }
     let side = loose.reach();
-    let record = hold_inside::<D, W>(side);
-    *at = record;
-    Lending {
-        status: DONE,
-        until: [],
-    }
+    Ok(hold_inside::<D, W>(side))
 }
 
 /// Lends the words in the writing side's slot, to be filled where the record will lie, until the side is used again.

@@ -14,7 +14,7 @@ mod room;
 mod status;
 mod triple;
 
-pub use calls::{BUSY, Lending, end, hold, lacks, look, make, publish, read, slot, write};
+pub use calls::{BUSY, end, hold, lacks, look, make, publish, read, slot, write};
 pub use four_slot::{FourSlotReader, FourSlotWriter};
 pub use hands::{Hand, Holds, Wraps};
 pub use numbered::Numbered;

@@ -77,11 +77,11 @@ module _ {D G W : Type 0} (code : ℕ) (reads : G → D) (h k : Holding D) (has_
   look_cut_off n e (handles.done p q w had has read) = absurd (omega (arith, e))
   look_cut_off n e (handles.refused r counted) = (lacks_cut_off n e r.1, r.2, counted)
 
-module _ {D G W : Type 0} (code : ℕ) (reads : G → D) (h : Holding D) (at_hand : G → Numbered W) (seen seen' : W) where
+module _ {D G W : Type 0} (code : ℕ) (reads : G → D) (h : Holding D) (words : G → W) (seen seen' : W) where
   abbrev Held : ℕ → Type 0
-  Held n = IsHold code reads at_hand h seen seen' n
+  Held n = IsHold code reads words h seen seen' n
 
-  hold_done : (n : ℕ) → n ≡ 0 → Held n → (g : G) × (h.live ≡ code) × (h.side ≡ reads g) × (seen' ≡ (at_hand g).words)
+  hold_done : (n : ℕ) → n ≡ 0 → Held n → (g : G) × (h.live ≡ code) × (h.side ≡ reads g) × (seen' ≡ words g)
   hold_done n e (handles.done g had leads) = (g, had.0, had.1, leads)
   hold_done n e (handles.refused not lacking same) = absurd (let least = lacks_by_three n lacking in omega (arith, e, least))
 
@@ -115,11 +115,11 @@ module _ {D W : Type 0} where
   )
 
   pub hold_statuses : HoldStatusesShow D W
-  hold_statuses code reads h seen seen' = (
-    hold_done code reads h at_hand seen seen' 0 refl,
-    hold_ended code reads h at_hand seen seen' 3 refl,
-    hold_other code reads h at_hand seen seen' 5 refl,
-    hold_cut_off code reads h at_hand seen seen' 12 refl,
+  hold_statuses code reads words h seen seen' = (
+    hold_done code reads h (λ g. words (at_hand g).words) seen seen' 0 refl,
+    hold_ended code reads h (λ g. words (at_hand g).words) seen seen' 3 refl,
+    hold_other code reads h (λ g. words (at_hand g).words) seen seen' 5 refl,
+    hold_cut_off code reads h (λ g. words (at_hand g).words) seen seen' 12 refl,
   )
 
   pub backs : BacksShow D W

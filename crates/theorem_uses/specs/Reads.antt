@@ -1,5 +1,5 @@
 -- Consequences of a read, a look, a hold and a loan through C, by its status (this project's own).
-use Rattle.std.specs.Prelude.{◌≡◌, ◌≢◌, ◌⊎◌, ℕ, ◌+◌, ◌<◌, ◌≤◌, [], ◌∷◌, ◌++◌, slice_get, Some}
+use Rattle.std.specs.Prelude.{◌≡◌, ◌≢◌, ◌⊎◌, ℕ, ◌+◌, ◌<◌, ◌≤◌, List, [], ◌∷◌, ◌++◌, slice_get, Some}
 use Rattle.std.specs.Arc.{arc_value}
 use Rattle.cell_contract.specs.Intervals.{At, IsNextAnswer, IsNextCall}
 use Rattle.cell_contract.specs.Running.{IsAnswer}
@@ -86,14 +86,15 @@ module _ (D W : Type 0) where
       × (IsLook code reads HasRead h k number number' 5 → (h.live ≢ 0) × (h.live ≢ code) × (k ≡ h) × (number' ≡ number))
       × (IsLook code reads HasRead h k number number' 12 → (h.live ≡ 255) × (k ≡ h) × (number' ≡ number))
 
-  -- with status 0 a hold leads to the record at hand, and with any other to what it led to
+  -- with status 0 a hold leads to the words of the record at hand, and with any other to what it led to
   abbrev pub HoldStatusesShow : Type 0
-  HoldStatusesShow = (code : ℕ) (reads : TripleReader W → D) (h : Holding D) (seen seen' : W) →
-      (IsHold code reads at_hand h seen seen' 0 → (g : TripleReader W) × (h.live ≡ code) × (h.side ≡ reads g)
-      × (seen' ≡ (at_hand g).words))
-      × (IsHold code reads at_hand h seen seen' 3 → (h.live ≡ 0) × (seen' ≡ seen))
-      × (IsHold code reads at_hand h seen seen' 5 → (h.live ≢ 0) × (h.live ≢ code) × (seen' ≡ seen))
-      × (IsHold code reads at_hand h seen seen' 12 → (h.live ≡ 255) × (seen' ≡ seen))
+  HoldStatusesShow = (code : ℕ) (reads : TripleReader W → D) (words : W → List ℕ) (h : Holding D)
+      (seen seen' : List ℕ) → let at_words : TripleReader W → List ℕ = λ g. words (at_hand g).words in
+      (IsHold code reads at_words h seen seen' 0 → (g : TripleReader W) × (h.live ≡ code) × (h.side ≡ reads g)
+      × (seen' ≡ words (at_hand g).words))
+      × (IsHold code reads at_words h seen seen' 3 → (h.live ≡ 0) × (seen' ≡ seen))
+      × (IsHold code reads at_words h seen seen' 5 → (h.live ≢ 0) × (h.live ≢ code) × (seen' ≡ seen))
+      × (IsHold code reads at_words h seen seen' 12 → (h.live ≡ 255) × (seen' ≡ seen))
 
   -- once the record is back, the handle has its side, which has its cell, knows what it knew and holds the slot
   -- that it held; or it is as it was

@@ -21,7 +21,6 @@
 
 use crate::watched::{ignore, Order};
 use alloc::vec::Vec;
-use core::cell::UnsafeCell;
 use core::ffi::c_void;
 use core::mem::MaybeUninit;
 use core::ops::{Deref, DerefMut};
@@ -46,12 +45,23 @@ impl Side {
     const EMPTY: Side = Side { live: 0, at: ptr::null_mut() };
 }
 
+/// The words of a record where they lie, and how many they are: a slice of the library's.
+#[repr(C)]
+struct Lent {
+    at: *mut u64,
+    count: usize,
+}
+
+impl Lent {
+    const NONE: Lent = Lent { at: ptr::NonNull::dangling().as_ptr(), count: 0 };
+}
+
 type Make = unsafe extern "C" fn(*const c_void, *mut Side, *mut Side) -> u32;
 type Write = unsafe extern "C" fn(*mut Side, *const c_void) -> u32;
 type Read = unsafe extern "C" fn(*mut Side, *mut c_void, *mut u64) -> u32;
 type Look = unsafe extern "C" fn(*mut Side, *mut u64) -> u32;
-type Hold = unsafe extern "C" fn(*mut Side, *mut *const c_void) -> u32;
-type Loan = unsafe extern "C" fn(*mut Side, *mut *mut c_void) -> u32;
+type Hold = unsafe extern "C" fn(*mut Side, *mut Lent) -> u32;
+type Loan = unsafe extern "C" fn(*mut Side, *mut Lent) -> u32;
 type Publish = unsafe extern "C" fn(*mut Side) -> u32;
 type End = unsafe extern "C" fn(*mut Side) -> u32;
 
@@ -107,14 +117,14 @@ calls!(TRIPLE_65536, 65536, "triple_65536");
 calls!(TRIPLE_1048576, 1048576, "triple_1048576");
 
 extern "C" {
-    fn nidzaru_triple_8_hold(reader: *mut Side, at: *mut *const c_void) -> u32;
-    fn nidzaru_triple_24_hold(reader: *mut Side, at: *mut *const c_void) -> u32;
-    fn nidzaru_triple_64_hold(reader: *mut Side, at: *mut *const c_void) -> u32;
-    fn nidzaru_triple_256_hold(reader: *mut Side, at: *mut *const c_void) -> u32;
-    fn nidzaru_triple_1024_hold(reader: *mut Side, at: *mut *const c_void) -> u32;
-    fn nidzaru_triple_4096_hold(reader: *mut Side, at: *mut *const c_void) -> u32;
-    fn nidzaru_triple_65536_hold(reader: *mut Side, at: *mut *const c_void) -> u32;
-    fn nidzaru_triple_1048576_hold(reader: *mut Side, at: *mut *const c_void) -> u32;
+    fn nidzaru_triple_8_hold(reader: *mut Side, at: *mut Lent) -> u32;
+    fn nidzaru_triple_24_hold(reader: *mut Side, at: *mut Lent) -> u32;
+    fn nidzaru_triple_64_hold(reader: *mut Side, at: *mut Lent) -> u32;
+    fn nidzaru_triple_256_hold(reader: *mut Side, at: *mut Lent) -> u32;
+    fn nidzaru_triple_1024_hold(reader: *mut Side, at: *mut Lent) -> u32;
+    fn nidzaru_triple_4096_hold(reader: *mut Side, at: *mut Lent) -> u32;
+    fn nidzaru_triple_65536_hold(reader: *mut Side, at: *mut Lent) -> u32;
+    fn nidzaru_triple_1048576_hold(reader: *mut Side, at: *mut Lent) -> u32;
 }
 
 /// What holds a record of a triple buffer, by the library's size.
@@ -143,7 +153,7 @@ macro_rules! in_place {
     ($cell:literal) => {{
         extern "C" {
             #[link_name = concat!("nidzaru_", $cell, "_loan")]
-            fn loan(writer: *mut Side, at: *mut *mut c_void) -> u32;
+            fn loan(writer: *mut Side, at: *mut Lent) -> u32;
             #[link_name = concat!("nidzaru_", $cell, "_publish")]
             fn publish(writer: *mut Side) -> u32;
         }
@@ -517,32 +527,19 @@ fn write_by<T: Copy, const N: usize>(calls: &'static Calls, writer: &mut Live, i
     is_written(writer.order.show(|| unsafe { (calls.write)(&mut writer.side, words.as_ptr()) }))
 }
 
-/// What a loan of this size of record answers, and where it leads. It takes room of the stack for a record of so many words.
-#[inline]
-fn lend<const N: usize>(size: usize, loan: Loan, writer: &mut Side) -> (u32, *mut c_void) {
-    assert!(size <= size_of::<[u64; N]>());
-    let mut before = MaybeUninit::<[u64; N]>::uninit();
-    let mut at = before.as_mut_ptr().cast::<c_void>();
-    // `at` leads to room for a record of this call's own, as the library asks, and then to the writer's slot.
-    let status = unsafe { loan(writer, &mut at) };
-    (status, at)
-}
-
 /// Fills the record in the writer's slot of a triple buffer where it lies, and publishes it. `false` where the limit refuses it.
 #[inline]
 pub fn write_in_place<T: Copy>(calls: &'static Calls, writer: &mut Live, fill: impl FnOnce(&mut T)) -> bool {
     const { assert!(align_of::<T>() <= 8, "a record that is filled where it lies is aligned to at most 8") };
     let InPlace { loan, publish } = in_place_for(calls.size);
-    let (status, at) = ignore(|| match calls.size {
-        65536 => apart(|| lend::<8192>(65536, loan, &mut writer.side)),
-        1048576 => apart(|| lend::<131072>(1048576, loan, &mut writer.side)),
-        size => lend::<512>(size, loan, &mut writer.side),
-    });
-    must_be_done(status);
-    writer.order.take(at);
+    let mut lent = Lent::NONE;
+    // `lent` has no words, and then those of the writer's slot.
+    must_be_done(ignore(|| unsafe { loan(&mut writer.side, &mut lent) }));
+    debug_assert_eq!(lent.count * 8, calls.size);
+    writer.order.take(lent.at.cast());
     // The slot begins with the bytes of a `T`, an older record's or the opening's, and is aligned to 8. Nobody else reads or writes there
     // before it is published.
-    fill(unsafe { &mut *at.cast::<T>() });
+    fill(unsafe { &mut *lent.at.cast::<T>() });
     is_written(writer.order.show(|| unsafe { publish(&mut writer.side) }))
 }
 
@@ -605,50 +602,22 @@ pub fn look(calls: &'static Calls, reader: &mut Live) -> u64 {
     number
 }
 
-/// A record of zeros, in a cell so that it takes no room in the program's file.
-struct Zeros<const N: usize>(UnsafeCell<[u64; N]>);
-
-impl<const N: usize> Zeros<N> {
-    const NEW: Self = Zeros(UnsafeCell::new([0; N]));
-
-    fn record(&self) -> &[u64] {
-        // Nobody writes there.
-        unsafe { &*self.0.get() }
-    }
-}
-
-// Nobody writes there.
-unsafe impl<const N: usize> Sync for Zeros<N> {}
-
-/// A record of zeros with room for the record of the library that so many bytes go into, for what has to lead to one before a hold. A program
-/// has in its memory those alone that it asks for.
-#[inline]
-fn any_record(size: usize) -> &'static [u64] {
-    static SMALL: Zeros<512> = Zeros::NEW;
-    static MIDDLE: Zeros<8192> = Zeros::NEW;
-    static LARGE: Zeros<131_072> = Zeros::NEW;
-    match size {
-        0..=4096 => SMALL.record(),
-        4097..=65_536 => MIDDLE.record(),
-        _ => LARGE.record(),
-    }
-}
-
 /// Where a record of a triple buffer's lies that a read would give, and its number.
 #[inline]
 pub fn hold<'a, T: Copy>(calls: &'static Calls, reader: &'a mut Live) -> (&'a T, u64) {
     const { assert!(align_of::<T>() <= 8, "a record that is read where it lies is aligned to at most 8") };
-    let (mut at, mut number) = (any_record(size_of::<T>()).as_ptr().cast::<c_void>(), 0);
-    // `at` leads to a whole record, as the library asks, and then to the one that the reader holds.
+    let (mut held, mut number) = (Lent::NONE, 0);
+    // `held` has no words, and then those of the record that the reader holds.
     must_be_done(reader.order.see(|| unsafe {
         match (calls.look)(&mut reader.side, &mut number) {
-            DONE => hold_for(calls.size)(&mut reader.side, &mut at),
+            DONE => hold_for(calls.size)(&mut reader.side, &mut held),
             status => status,
         }
     }));
-    reader.order.keep(at);
+    debug_assert_eq!(held.count * 8, calls.size);
+    reader.order.keep(held.at.cast());
     // It begins with the bytes of a `T` and is aligned to 8. Nothing writes there before the next call, which takes the side by `&mut`.
-    (unsafe { &*at.cast::<T>() }, number)
+    (unsafe { &*held.at.cast::<T>() }, number)
 }
 
 #[inline]
@@ -1029,13 +998,6 @@ mod tests {
             *words = Words::of(&Wide([7, 6, 5, 4, 3, 2, 1, 0]));
             // They begin with the bytes of a `Wide`.
             assert_eq!(unsafe { item_of(words) }, Wide([7, 6, 5, 4, 3, 2, 1, 0]));
-        }
-    }
-
-    #[test]
-    fn what_a_hold_leads_to_before_has_room_for_its_record() {
-        for size in [8, 24, 64, 256, 1024, 4096, 65_536, 1_048_576] {
-            assert!(size_of_val(any_record(size)) >= size);
         }
     }
 

@@ -25,7 +25,7 @@ fn made<const N: usize, M: Mechanism>() -> Sides<[u64; N], M> {
 /// No more records does a make put on the stack.
 const MAKE_RECORDS: usize = 2;
 
-/// All calls but a make and a write in place run on a small stack.
+/// All calls but a make run on a small stack.
 fn calls<const N: usize, M: Mechanism>() {
     let (mut writer, mut reader) = made::<N, M>();
     let (mut item, mut next) = (of::<N>(9), of::<N>(1));
@@ -51,10 +51,10 @@ fn each_call_at_each_large_size() {
     calls::<131_072, Triple>();
 }
 
-/// What lies where it is held or filled comes to no stack, but for the room that a write in place takes.
+/// What lies where it is held or filled comes to no stack.
 fn in_place<const N: usize>() {
     let (mut writer, mut reader) = made::<N, Triple>();
-    on_stack(128 + N / 128, || writer.write_with(|record| record.fill(7)).unwrap());
+    on_stack(128, || writer.write_with(|record| record.fill(7)).unwrap());
     on_stack(128, || {
         let held = reader.hold();
         writer.write(&of::<N>(8)).unwrap();

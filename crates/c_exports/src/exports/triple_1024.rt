@@ -1,5 +1,6 @@
 // made by c/exports.py
 //! A triple buffer with records of 1,024 bytes.
+ghost use Rattle.c_handles.specs.declared.record.Record1024.{Record1024};
 ghost use Rattle.c_registers.specs.TripleCalls.{IsMade, HasWritten, HasRead, HasPublished, at_hand, in_slot};
 ghost use Rattle.c_registers.specs.Handles.{holding, IsMake, IsWrite, IsRead, IsLook, IsHold, IsPublish, IsEnd};
 
@@ -87,26 +88,31 @@ pub extern "C" fn nidzaru_triple_1024_look(
 #[unsafe(no_mangle)]
 pub extern "C" fn nidzaru_triple_1024_hold<'a>(
     reader: &'a mut triple_reader_1024::Handle,
-    at: &mut &'a Record1024,
+    at: &mut &'a [u64],
 ) -> u32
-    ensures { IsHold 20 (λ g. record { it = g }) at_hand
+    ensures { IsHold 20 (λ g. record { it = g }) (λ g. (at_hand {W = Record1024} g).words.words)
         (holding reader.old.live reader.old.loose.side) at.old.now at.new.now result }
 {
     let live = reader.live;
-    hold::<TripleReader1024, triple_reader_1024::Loose, Record1024>(
+    match hold::<TripleReader1024, triple_reader_1024::Loose, Record1024>(
         &mut reader.loose,
         20,
         live,
-        at,
-    ).status
+    ) {
+        Err(status) => status,
+        Ok(record) => {
+            *at = record.words.as_slice();
+            DONE
+        }
+    }
 }
 
 #[unsafe(no_mangle)]
 pub extern "C" fn nidzaru_triple_1024_loan<'a>(
     writer: &'a mut triple_writer_1024::Handle,
-    at: &mut &'a mut Record1024,
+    at: &mut &'a mut [u64],
 ) -> u32
-    ensures { IsHold 19 (λ p. record { it = p }) in_slot
+    ensures { IsHold 19 (λ p. record { it = p }) (λ p. (in_slot {W = Record1024} p).words.words)
         (holding writer.old.live writer.old.loose.side) at.old.now at.new.now result }
 {
     let live = writer.live;
@@ -116,8 +122,8 @@ pub extern "C" fn nidzaru_triple_1024_loan<'a>(
         live,
     ) {
         Err(status) => status,
-        Ok(words) => {
-            *at = words;
+        Ok(record) => {
+            *at = record.words.as_mut_slice();
             DONE
         }
     }

@@ -1,5 +1,6 @@
 // made by c/exports.py
 //! A triple buffer with records of 1,048,576 bytes.
+ghost use Rattle.c_handles.specs.declared.record.Record1048576.{Record1048576};
 ghost use Rattle.c_registers.specs.TripleCalls.{IsMade, HasWritten, HasRead, HasPublished, at_hand, in_slot};
 ghost use Rattle.c_registers.specs.Handles.{holding, IsMake, IsWrite, IsRead, IsLook, IsHold, IsPublish, IsEnd};
 
@@ -86,26 +87,31 @@ pub extern "C" fn nidzaru_triple_1048576_look(
 #[unsafe(no_mangle)]
 pub extern "C" fn nidzaru_triple_1048576_hold<'a>(
     reader: &'a mut triple_reader_1048576::Handle,
-    at: &mut &'a Record1048576,
+    at: &mut &'a [u64],
 ) -> u32
-    ensures { IsHold 32 (λ g. record { it = g }) at_hand
+    ensures { IsHold 32 (λ g. record { it = g }) (λ g. (at_hand {W = Record1048576} g).words.words)
         (holding reader.old.live reader.old.loose.side) at.old.now at.new.now result }
 {
     let live = reader.live;
-    hold::<TripleReader1048576, triple_reader_1048576::Loose, Record1048576>(
+    match hold::<TripleReader1048576, triple_reader_1048576::Loose, Record1048576>(
         &mut reader.loose,
         32,
         live,
-        at,
-    ).status
+    ) {
+        Err(status) => status,
+        Ok(record) => {
+            *at = record.words.as_slice();
+            DONE
+        }
+    }
 }
 
 #[unsafe(no_mangle)]
 pub extern "C" fn nidzaru_triple_1048576_loan<'a>(
     writer: &'a mut triple_writer_1048576::Handle,
-    at: &mut &'a mut Record1048576,
+    at: &mut &'a mut [u64],
 ) -> u32
-    ensures { IsHold 31 (λ p. record { it = p }) in_slot
+    ensures { IsHold 31 (λ p. record { it = p }) (λ p. (in_slot {W = Record1048576} p).words.words)
         (holding writer.old.live writer.old.loose.side) at.old.now at.new.now result }
 {
     let live = writer.live;
@@ -115,8 +121,8 @@ pub extern "C" fn nidzaru_triple_1048576_loan<'a>(
         live,
     ) {
         Err(status) => status,
-        Ok(words) => {
-            *at = words;
+        Ok(record) => {
+            *at = record.words.as_mut_slice();
             DONE
         }
     }

@@ -1,5 +1,6 @@
 // made by c/exports.py
 //! A triple buffer with records of 24 bytes.
+ghost use Rattle.c_handles.specs.declared.record.Record24.{Record24};
 ghost use Rattle.c_registers.specs.TripleCalls.{IsMade, HasWritten, HasRead, HasPublished, at_hand, in_slot};
 ghost use Rattle.c_registers.specs.Handles.{holding, IsMake, IsWrite, IsRead, IsLook, IsHold, IsPublish, IsEnd};
 
@@ -87,28 +88,34 @@ pub extern "C" fn nidzaru_triple_24_look(
 #[unsafe(no_mangle)]
 pub extern "C" fn nidzaru_triple_24_hold<'a>(
     reader: &'a mut triple_reader_24::Handle,
-    at: &mut &'a Record24,
+    at: &mut &'a [u64],
 ) -> u32
-    ensures { IsHold 8 (λ g. record { it = g }) at_hand
+    ensures { IsHold 8 (λ g. record { it = g }) (λ g. (at_hand {W = Record24} g).words.words)
         (holding reader.old.live reader.old.loose.side) at.old.now at.new.now result }
 {
     let live = reader.live;
-    hold::<TripleReader24, triple_reader_24::Loose, Record24>(&mut reader.loose, 8, live, at).status
+    match hold::<TripleReader24, triple_reader_24::Loose, Record24>(&mut reader.loose, 8, live) {
+        Err(status) => status,
+        Ok(record) => {
+            *at = record.words.as_slice();
+            DONE
+        }
+    }
 }
 
 #[unsafe(no_mangle)]
 pub extern "C" fn nidzaru_triple_24_loan<'a>(
     writer: &'a mut triple_writer_24::Handle,
-    at: &mut &'a mut Record24,
+    at: &mut &'a mut [u64],
 ) -> u32
-    ensures { IsHold 7 (λ p. record { it = p }) in_slot
+    ensures { IsHold 7 (λ p. record { it = p }) (λ p. (in_slot {W = Record24} p).words.words)
         (holding writer.old.live writer.old.loose.side) at.old.now at.new.now result }
 {
     let live = writer.live;
     match slot::<TripleWriter24, triple_writer_24::Loose, Record24>(&mut writer.loose, 7, live) {
         Err(status) => status,
-        Ok(words) => {
-            *at = words;
+        Ok(record) => {
+            *at = record.words.as_mut_slice();
             DONE
         }
     }

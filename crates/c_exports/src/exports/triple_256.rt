@@ -1,5 +1,6 @@
 // made by c/exports.py
 //! A triple buffer with records of 256 bytes.
+ghost use Rattle.c_handles.specs.declared.record.Record256.{Record256};
 ghost use Rattle.c_registers.specs.TripleCalls.{IsMade, HasWritten, HasRead, HasPublished, at_hand, in_slot};
 ghost use Rattle.c_registers.specs.Handles.{holding, IsMake, IsWrite, IsRead, IsLook, IsHold, IsPublish, IsEnd};
 
@@ -87,26 +88,31 @@ pub extern "C" fn nidzaru_triple_256_look(
 #[unsafe(no_mangle)]
 pub extern "C" fn nidzaru_triple_256_hold<'a>(
     reader: &'a mut triple_reader_256::Handle,
-    at: &mut &'a Record256,
+    at: &mut &'a [u64],
 ) -> u32
-    ensures { IsHold 16 (λ g. record { it = g }) at_hand
+    ensures { IsHold 16 (λ g. record { it = g }) (λ g. (at_hand {W = Record256} g).words.words)
         (holding reader.old.live reader.old.loose.side) at.old.now at.new.now result }
 {
     let live = reader.live;
-    hold::<TripleReader256, triple_reader_256::Loose, Record256>(
+    match hold::<TripleReader256, triple_reader_256::Loose, Record256>(
         &mut reader.loose,
         16,
         live,
-        at,
-    ).status
+    ) {
+        Err(status) => status,
+        Ok(record) => {
+            *at = record.words.as_slice();
+            DONE
+        }
+    }
 }
 
 #[unsafe(no_mangle)]
 pub extern "C" fn nidzaru_triple_256_loan<'a>(
     writer: &'a mut triple_writer_256::Handle,
-    at: &mut &'a mut Record256,
+    at: &mut &'a mut [u64],
 ) -> u32
-    ensures { IsHold 15 (λ p. record { it = p }) in_slot
+    ensures { IsHold 15 (λ p. record { it = p }) (λ p. (in_slot {W = Record256} p).words.words)
         (holding writer.old.live writer.old.loose.side) at.old.now at.new.now result }
 {
     let live = writer.live;
@@ -116,8 +122,8 @@ pub extern "C" fn nidzaru_triple_256_loan<'a>(
         live,
     ) {
         Err(status) => status,
-        Ok(words) => {
-            *at = words;
+        Ok(record) => {
+            *at = record.words.as_mut_slice();
             DONE
         }
     }

@@ -1,5 +1,6 @@
 // made by c/exports.py
 //! A triple buffer with records of 64 bytes.
+ghost use Rattle.c_handles.specs.declared.record.Record64.{Record64};
 ghost use Rattle.c_registers.specs.TripleCalls.{IsMade, HasWritten, HasRead, HasPublished, at_hand, in_slot};
 ghost use Rattle.c_registers.specs.Handles.{holding, IsMake, IsWrite, IsRead, IsLook, IsHold, IsPublish, IsEnd};
 
@@ -87,33 +88,34 @@ pub extern "C" fn nidzaru_triple_64_look(
 #[unsafe(no_mangle)]
 pub extern "C" fn nidzaru_triple_64_hold<'a>(
     reader: &'a mut triple_reader_64::Handle,
-    at: &mut &'a Record64,
+    at: &mut &'a [u64],
 ) -> u32
-    ensures { IsHold 12 (λ g. record { it = g }) at_hand
+    ensures { IsHold 12 (λ g. record { it = g }) (λ g. (at_hand {W = Record64} g).words.words)
         (holding reader.old.live reader.old.loose.side) at.old.now at.new.now result }
 {
     let live = reader.live;
-    hold::<TripleReader64, triple_reader_64::Loose, Record64>(
-        &mut reader.loose,
-        12,
-        live,
-        at,
-    ).status
+    match hold::<TripleReader64, triple_reader_64::Loose, Record64>(&mut reader.loose, 12, live) {
+        Err(status) => status,
+        Ok(record) => {
+            *at = record.words.as_slice();
+            DONE
+        }
+    }
 }
 
 #[unsafe(no_mangle)]
 pub extern "C" fn nidzaru_triple_64_loan<'a>(
     writer: &'a mut triple_writer_64::Handle,
-    at: &mut &'a mut Record64,
+    at: &mut &'a mut [u64],
 ) -> u32
-    ensures { IsHold 11 (λ p. record { it = p }) in_slot
+    ensures { IsHold 11 (λ p. record { it = p }) (λ p. (in_slot {W = Record64} p).words.words)
         (holding writer.old.live writer.old.loose.side) at.old.now at.new.now result }
 {
     let live = writer.live;
     match slot::<TripleWriter64, triple_writer_64::Loose, Record64>(&mut writer.loose, 11, live) {
         Err(status) => status,
-        Ok(words) => {
-            *at = words;
+        Ok(record) => {
+            *at = record.words.as_mut_slice();
             DONE
         }
     }

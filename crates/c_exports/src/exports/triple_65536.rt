@@ -1,5 +1,6 @@
 // made by c/exports.py
 //! A triple buffer with records of 65,536 bytes.
+ghost use Rattle.c_handles.specs.declared.record.Record65536.{Record65536};
 ghost use Rattle.c_registers.specs.TripleCalls.{IsMade, HasWritten, HasRead, HasPublished, at_hand, in_slot};
 ghost use Rattle.c_registers.specs.Handles.{holding, IsMake, IsWrite, IsRead, IsLook, IsHold, IsPublish, IsEnd};
 
@@ -87,26 +88,31 @@ pub extern "C" fn nidzaru_triple_65536_look(
 #[unsafe(no_mangle)]
 pub extern "C" fn nidzaru_triple_65536_hold<'a>(
     reader: &'a mut triple_reader_65536::Handle,
-    at: &mut &'a Record65536,
+    at: &mut &'a [u64],
 ) -> u32
-    ensures { IsHold 28 (λ g. record { it = g }) at_hand
+    ensures { IsHold 28 (λ g. record { it = g }) (λ g. (at_hand {W = Record65536} g).words.words)
         (holding reader.old.live reader.old.loose.side) at.old.now at.new.now result }
 {
     let live = reader.live;
-    hold::<TripleReader65536, triple_reader_65536::Loose, Record65536>(
+    match hold::<TripleReader65536, triple_reader_65536::Loose, Record65536>(
         &mut reader.loose,
         28,
         live,
-        at,
-    ).status
+    ) {
+        Err(status) => status,
+        Ok(record) => {
+            *at = record.words.as_slice();
+            DONE
+        }
+    }
 }
 
 #[unsafe(no_mangle)]
 pub extern "C" fn nidzaru_triple_65536_loan<'a>(
     writer: &'a mut triple_writer_65536::Handle,
-    at: &mut &'a mut Record65536,
+    at: &mut &'a mut [u64],
 ) -> u32
-    ensures { IsHold 27 (λ p. record { it = p }) in_slot
+    ensures { IsHold 27 (λ p. record { it = p }) (λ p. (in_slot {W = Record65536} p).words.words)
         (holding writer.old.live writer.old.loose.side) at.old.now at.new.now result }
 {
     let live = writer.live;
@@ -116,8 +122,8 @@ pub extern "C" fn nidzaru_triple_65536_loan<'a>(
         live,
     ) {
         Err(status) => status,
-        Ok(words) => {
-            *at = words;
+        Ok(record) => {
+            *at = record.words.as_mut_slice();
             DONE
         }
     }

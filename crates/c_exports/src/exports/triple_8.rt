@@ -1,5 +1,6 @@
 // made by c/exports.py
 //! A triple buffer with records of 8 bytes.
+ghost use Rattle.c_handles.specs.declared.record.Record8.{Record8};
 ghost use Rattle.c_registers.specs.TripleCalls.{IsMade, HasWritten, HasRead, HasPublished, at_hand, in_slot};
 ghost use Rattle.c_registers.specs.Handles.{holding, IsMake, IsWrite, IsRead, IsLook, IsHold, IsPublish, IsEnd};
 
@@ -87,28 +88,34 @@ pub extern "C" fn nidzaru_triple_8_look(
 #[unsafe(no_mangle)]
 pub extern "C" fn nidzaru_triple_8_hold<'a>(
     reader: &'a mut triple_reader_8::Handle,
-    at: &mut &'a Record8,
+    at: &mut &'a [u64],
 ) -> u32
-    ensures { IsHold 4 (λ g. record { it = g }) at_hand
+    ensures { IsHold 4 (λ g. record { it = g }) (λ g. (at_hand {W = Record8} g).words.words)
         (holding reader.old.live reader.old.loose.side) at.old.now at.new.now result }
 {
     let live = reader.live;
-    hold::<TripleReader8, triple_reader_8::Loose, Record8>(&mut reader.loose, 4, live, at).status
+    match hold::<TripleReader8, triple_reader_8::Loose, Record8>(&mut reader.loose, 4, live) {
+        Err(status) => status,
+        Ok(record) => {
+            *at = record.words.as_slice();
+            DONE
+        }
+    }
 }
 
 #[unsafe(no_mangle)]
 pub extern "C" fn nidzaru_triple_8_loan<'a>(
     writer: &'a mut triple_writer_8::Handle,
-    at: &mut &'a mut Record8,
+    at: &mut &'a mut [u64],
 ) -> u32
-    ensures { IsHold 3 (λ p. record { it = p }) in_slot
+    ensures { IsHold 3 (λ p. record { it = p }) (λ p. (in_slot {W = Record8} p).words.words)
         (holding writer.old.live writer.old.loose.side) at.old.now at.new.now result }
 {
     let live = writer.live;
     match slot::<TripleWriter8, triple_writer_8::Loose, Record8>(&mut writer.loose, 3, live) {
         Err(status) => status,
-        Ok(words) => {
-            *at = words;
+        Ok(record) => {
+            *at = record.words.as_mut_slice();
             DONE
         }
     }

@@ -25,72 +25,26 @@ impl Model for Loose {
 }
 
 impl Loose {
-    /// Nothing.
-    fn empty_like(other: &Loose) -> Loose
-        ensures { result.full ≡ false }
+    /// Takes the box out.
+    fn take(&mut self, alloc: Global) -> Parts<FourSlotPlace24, Global>
+        requires { self.old.full ≡ true }
+        ensures { (self.new.full ≡ false) × (result.value ≡ self.old.side) }
     {
-        let _ = other;
-        Loose {
-            at: std::ptr::null_mut(),
-        }
-    }
-
-    fn of_parts(parts: Parts<FourSlotPlace24, Global>) -> Loose
-        ensures { (result.full ≡ true) × (result.side ≡ parts.value) }
-    {
-        let Parts { ptr, alloc: _ } = parts;
-        Loose { at: ptr as *mut u8 }
-    }
-
-    fn into_parts(self, alloc: Global) -> Parts<FourSlotPlace24, Global>
-        requires { self.full ≡ true }
-        ensures { result.value ≡ self.side }
-    {
-        let Loose { at } = self;
+        let at = self.at;
+        self.at = std::ptr::null_mut();
         Parts {
             ptr: at as *mut FourSlotPlace24,
             alloc,
         }
     }
 
-    /// Lets nothing go.
-    fn end(self)
-        requires { self.full ≡ false }
-    {
-        let Loose { at: _ } = self;
-    }
-
-    /// Takes the box out.
-    fn take(&mut self, alloc: Global) -> Box<FourSlotPlace24>
-        requires { self.old.full ≡ true }
-        ensures { (self.new.full ≡ false) × (result.value ≡ self.old.side) }
-    {
-        let empty = Loose::empty_like(self);
-        std::mem::replace(self, empty).into_parts(alloc).into_box()
-    }
-
     /// Puts a box where nothing is.
-    fn put(&mut self, boxed: Box<FourSlotPlace24>)
+    fn put(&mut self, parts: Parts<FourSlotPlace24, Global>)
         requires { self.old.full ≡ false }
-        ensures { (self.new.full ≡ true) × (self.new.side ≡ boxed.value) }
+        ensures { (self.new.full ≡ true) × (self.new.side ≡ parts.value) }
     {
-        std::mem::replace(self, Loose::of_parts(Parts::of(boxed))).end();
-    }
-}
-
-impl Loose {
-    ghost use Rattle.std.specs.Borrow.{sem, Lends};
-    ghost use Rattle.c_handles.specs.contracts.handles.four_slot_place_24.Loose as loose;
-
-    /// Lends the side in the box.
-    #[inline]
-    fn lend<'a>(&'a mut self) -> &'a mut FourSlotPlace24
-        requires { self.old.full ≡ true }
-        ensures* lent { sem 𝓛 (Lends loose.the_row sides.the_row self.entry result
-            (λ s. record { at = self.old.at; full = self.old.full; side = s })) }
-        ensures value { result.now ≡ self.old.side }
-    {
-        unsafe { &mut *(self.at as *mut FourSlotPlace24) }
+        let Parts { ptr, alloc: _ } = parts;
+        self.at = ptr as *mut u8;
     }
 }
 
@@ -105,7 +59,7 @@ impl Holds<FourSlotPlace24> for Loose {
 
     #[inline]
     fn reach(&mut self) -> &mut FourSlotPlace24 {
-        self.lend()
+        unsafe { &mut *(self.at as *mut FourSlotPlace24) }
     }
 
     ghost stays = { λ l s. refl };
@@ -139,14 +93,14 @@ impl Hand<FourSlotPlace24> for Handle {
 
     fn take(&mut self, alloc: Global) -> Box<FourSlotPlace24> {
         self.live = 0;
-        self.loose.take(alloc)
+        self.loose.take(alloc).into_box()
     }
 
     fn put(&mut self, boxed: Box<FourSlotPlace24>)
         requires { self.old.live ≡ 0 }
         ensures { (self.new.live ≡ 33) × (self.new.loose.side ≡ boxed.value) }
     {
-        self.loose.put(boxed);
+        self.loose.put(Parts::of(boxed));
         self.live = 33;
     }
 }
