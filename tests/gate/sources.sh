@@ -114,6 +114,7 @@ cat >"$room/listed" <<'LIST'
 .shared.store::<Showing<Finishes,FourSlotMechanism,K>>(
 .shared.load::<Asks>(
 .shared.store::<Says>(
+.shared.load::<Showing<TakesOn,FourSlotMechanism,K>>(
 .shared.load::<Showing<Takes,FourSlotMechanism,K>>(
 LIST
 is_listed crates/family_four_slot/src/table.rt kinds

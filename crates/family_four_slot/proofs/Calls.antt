@@ -121,12 +121,13 @@ module _ {T : Type 0} (o : T) (n : ℕ) where
       let h = got_by g2 bit x d number writes in
       let u = knows Spent (knows Spent (knows Spent v k (Reader (asked_by g b a)) a h1) k (Reader g2) c h2) k (Reader h) d
       (held_slots ((slot_at k (slot_number (slot_with b bit)), x) ∷ (before ++ behind))) in
-      HasAnswered g2 h x → AreHeeded g.heard writes number → IsNewColumn kept kept' j (bit_number b) →
+      HasAnswered g2 h x → AreHeeded g.heard writes number → IsNewColumn kept kept' j (slot_number (slot_with b bit)) →
       IsAtRest o n u kept' ((slot_at k (slot_number (slot_with b bit)), x) ∷ (before ++ behind))
       × IsAccess 3 v.clock u.clock v.times u.times (reads_from o n v j).times (reads_from o n u j).times
       × IsReadAccess o (reads_from o n v j) (reads_from o n u j) x × KeepsOthers j (reads_from o n v) (reads_from o n u)
       × KeepsEach (writes_to o n v) (writes_to o n u)
-  a_read v kept kept' before behind j g b x a c d number count bit writes h1 h2 k place_is lj ne r is opened la lc ld answered heeded said =
+  a_read v kept kept' before behind j g b x a c d number count bit writes h1 h2 k place_is lj ne r is opened la lc ld answered heeded
+      column =
       let g1 : ReaderNotes T = asked_by g b a in
       let g2 : ReaderNotes T = said_with g1 count c in
       let h : ReaderNotes T = got_by g2 bit x d number writes in
@@ -146,7 +147,8 @@ module _ {T : Type 0} (o : T) (n : ℕ) where
         rest_read o n v u kept kept' before behind slot j g h lj ne
             (subst (λ z. IsAtRest o n v kept
             (before ++ (shift (slot_at z) (slot_of_choice g.chosen g.at_hand.value) ++ behind))) place_is r) there refl opened
-            (subst (λ z. HasSlots z h (slot ∷ (before ++ behind))) place_is ([], before ++ behind, refl)) said refl,
+            (sym (last_snoc o g.answers x))
+            (subst (λ z. HasSlots z h (slot ∷ (before ++ behind))) place_is ([], before ++ behind, refl)) column refl,
         subst (λ (z : Times × Times). IsAccess 3 v.clock d v.times u.times z.0 z.1) (λ i. ((sym old i).times, (sym new i).times))
             (access_of v.times v.clock a c d g.times h.times la lc ld refl refl),
         subst (λ (z : ReadAccesses T × ReadAccesses T). IsReadAccess o z.0 z.1 x) (λ i. (sym old i, sym new i)) (record {

@@ -1,5 +1,5 @@
 -- A column on its way: what its next read needs.
-use Rattle.std.proofs.Common.{◌≡◌, ℕ, ◌-◌, ◌<◌, sym, ap, ◌∙◌, subst, inl}
+use Rattle.std.proofs.Common.{◌≡◌, ℕ, ◌-◌, ◌<◌, sym, ap, ◌∙◌, subst}
 use Rattle.cell_contract.specs.Plans.{Doings, doings, MayRead, MayReadEach, ReadsSoFar}
 use Rattle.cell_contract.specs.Rows.{OneByOne, IsReadFrom, SeesNew}
 use Rattle.cell_contract.proofs.Rows.{column_own}
@@ -15,20 +15,6 @@ module _ {T L : Type 0} (f : FourSlotFamily T) (fits : T → Type 0) (rises : T 
   -- such a read of one process, which is seen where it is new
   abbrev pub Read : ℕ → FourSlotSeat T × L → FourSlotSeat T × L → Type 0
   Read = IsReadFrom (IsSeat f) number_of clock_of times_of writes_of reads_of 3 (opening_of f) fits rises (SeesNew sees)
-
-  -- a read that is seen each time is one
-  pub seen_new : (from : ℕ) (old new : FourSlotSeat T × L) →
-      IsReadFrom (IsSeat f) number_of clock_of times_of writes_of reads_of 3 (opening_of f) fits rises (λ _. sees) from old new →
-      Read from old new
-  seen_new from old new call = record {
-    own = call.own;
-    access = call.access;
-    answer = call.answer;
-    read = call.read;
-    may = call.may;
-    saw = inl call.saw;
-    others = call.others;
-  }
 
   module _ (start : FourSlotSeat T) (first : L) where
     -- so many of the others were read

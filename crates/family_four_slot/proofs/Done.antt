@@ -1,14 +1,12 @@
 -- What a whole call makes of a seat, by what its three steps told.
 use Rattle.std.proofs.Common.{◌≡◌, ◌≢◌, ℕ, ◌<◌, ◌≤◌, arith, length, not, Bool, List, [], ◌∷◌, ◌++◌, set, refl, sym, ap, ◌∙◌, subst}
+use Rattle.atomic_table.specs.Table.{Me}
 use Rattle.four_slot_core.specs.Events.{bit_number, slot_number, slot_with}
-use Rattle.cell_contract.specs.Intervals.{AreHeeded}
 use Rattle.cell_contract.specs.Running.{held_slots, IsAnswer}
-use Rattle.cell_contract.specs.declared.times.Known.{Known}
 use Rattle.cell_four_slot.specs.declared.notes.WriterNotes.{WriterNotes}
 use Rattle.cell_four_slot.specs.declared.notes.ReaderNotes.{ReaderNotes}
 use Rattle.cell_contract.specs.declared.sight.Sight.TheVariants.{Spent, Writer, Reader}
-use Rattle.cell_four_slot.specs.Steps.{FourSlotSight, begun_with, stored_by, finished_with, asked_by, said_with, got_by, slot_of_choice}
-use Rattle.cell_four_slot.specs.Steps.{bit_words, HasAnswered}
+use Rattle.cell_four_slot.specs.Steps.{FourSlotSight, begun_with, stored_by, finished_with, asked_by, said_with, got_by, bit_words}
 use Rattle.cell_contract.proofs.ListLaws.{last_snoc}
 use Rattle.cell_contract.specs.Accesses.{IsAccess, IsReadAccess, IsWriteAccess, KeepsEach, KeepsOthers, ReadAccesses}
 use Rattle.family_four_slot.specs.declared.family.FourSlotFamily.{FourSlotFamily}
@@ -16,11 +14,13 @@ use Rattle.family_four_slot.specs.Seated.{FourSlotSeat}
 use Rattle.family_four_slot.specs.declared.family.Shown.{Shown}
 use Rattle.family_four_slot.specs.declared.family.Stored.{Stored}
 use Rattle.family_table.specs.declared.notes.Process.{Process}
+use Rattle.family_table.specs.declared.notes.View.{View}
 use Rattle.family_table.specs.declared.notes.View.TheVariants.{Has}
 use Rattle.family_table.specs.Family.{knows}
-use Rattle.family_table.specs.Layouts.{shift}
 use Rattle.family_table.specs.Places.{place}
+use Rattle.family_four_slot.specs.Access.{HasLooked}
 use Rattle.family_four_slot.specs.Places.{slot_at}
+use Rattle.family_four_slot.specs.Steps.{has_asked, has_said}
 use Rattle.family_table.specs.Seated.{known_by, number_of, clock_of, times_of}
 use Rattle.family_four_slot.specs.Seated.{opening_of, processes_of, writes_of, reads_of, IsSeat}
 use Rattle.family_four_slot.specs.Words.{none_shown, writes_to, reads_from, IsAtRest}
@@ -80,7 +80,7 @@ module _ {T : Type 0} where
                 (is_bits ∙ sym (ap (λ (z : Shown). z.bits) e), ap (λ (z : Shown). z.latest) e ∙ is_pair);
             others = λ i ne. get_set_else old.shown j i shown none_shown ne;
             long = set_long old.shown j shown;
-            said = refl;
+            reads = refl;
           } in
           let did = a_write o n v old new s.seat.inner.me.1 j p b x a c d count h1 h2 cell (row_place f s own j other cell at)
           (within f s own j other) (apart f s own j other) own.rest (row_notes f s own j other cell at) row.opened la lc ld
@@ -115,63 +115,56 @@ module _ {T : Type 0} where
           subst (λ (z : T × ReadAccesses T). IsAnswer fits rises z.0 z.1.answers z.1.told x)
           (λ i. ((column.opened ∙ own.opening) i, sym seen i)) h
 
-      module _ (b bit : Bool) (x : T) (a c d number count : ℕ) (writes : Known T) (h1 h2 : List ℕ) where
-        abbrev g : ReaderNotes T
-        g = (column_at f s own j other).notes
-
-        abbrev g1 : ReaderNotes T
-        g1 = asked_by g b a
-
-        abbrev g2 : ReaderNotes T
-        g2 = said_with g1 count c
-
-        abbrev after_read : List ℕ → Process (FourSlotSight T)
-        after_read held = knows Spent (knows Spent (knows Spent (known_by s) cell (Reader g1) a h1) cell (Reader g2) c h2) cell
-            (Reader (got_by g2 bit x d number writes)) d held
-
-        pub has_read : (pair : ℕ) (before behind cs : List (ℕ × T)) (s' : FourSlotSeat T) → (known_by s).clock < a → a < c → c < d →
-            s.seat.inner.me.1 ≡ before ++ (shift (slot_at cell) (slot_of_choice g.chosen g.at_hand.value) ++ behind) →
-            cs ≡ before ++ behind → s'.seat.inner.me.0 ≡ Has
-            (after_read (held_slots ((slot_at cell (slot_number (slot_with b bit)), x) ∷ cs)) ∷ []) →
-            s'.seat.inner.me.1 ≡ (slot_at cell (slot_number (slot_with b bit)), x) ∷ cs →
-            s'.seat.inner.table_id ≡ s.seat.inner.table_id → s'.spare ≡ s.spare → s'.processes ≡ s.processes → s'.who ≡ s.who →
-            s'.stored ≡ record s.stored { said = set s.stored.said j pair } → pair ≡ bit_number b →
-            HasAnswered g2 (got_by g2 bit x d number writes) x → AreHeeded g.heard writes number → HasRead f s s' j x
-        has_read pair before behind cs s' la lc ld split same me slots table spare processes who kept is_pair answered heeded =
-            let o : T = s.spare in
-            let n : ℕ = s.processes in
-            let v : Process (FourSlotSight T) = known_by s in
-            let column = column_at f s own j other in
-            let took : ℕ × T = (slot_at cell (slot_number (slot_with b bit)), x) in
-            let all_slots : List (ℕ × T) = took ∷ (before ++ behind) in
-            let old : Stored = s.stored in
-            let new : Stored = record old { said = set old.said j pair } in
-            let many : n ≤ length old.said = own.rest.long.1 in
-            let low : j < n = within f s own j other in
-            let kept_column : IsNewColumn old new j (bit_number b) = record {
-              here = get_set_here old.said j pair 0 (let z : j < length old.said = omega arith in z) ∙ is_pair;
-              others = λ i ne. get_set_else old.said j i pair 0 ne;
-              long = set_long old.said j pair;
-              shown = refl;
-            } in
-            let did = a_read o n v old new before behind j g b x a c d number count bit writes h1 h2 cell
-            (column_place f s own j other cell at)
-            (within f s own j other) (apart f s own j other) (subst (λ zs. IsAtRest o n v old zs) split own.rest)
-            (column_notes f s own j other cell at) column.opened la lc ld answered heeded kept_column in
-            let u : Process (FourSlotSight T) = after_read (held_slots all_slots) in
-            let now : s'.seat.inner.me.0 ≡ Has (u ∷ []) = me ∙ ap (λ zs. Has (after_read (held_slots (took ∷ zs)) ∷ [])) same in
-            let is : u ≡ known_by s' = sym (ap process_of now) in
-            let all : (T × ℕ × Process (FourSlotSight T)) → Type 0 = λ z.
-            IsAccess 3 v.clock z.2.clock v.times z.2.times (reads_from o n v j).times (reads_from z.0 z.1 z.2 j).times
-            × IsReadAccess o (reads_from o n v j) (reads_from z.0 z.1 z.2 j) x
-            × KeepsOthers j (reads_from o n v) (reads_from z.0 z.1 z.2) × KeepsEach (writes_to o n v) (writes_to z.0 z.1 z.2) in
-            let h = subst all (λ i. (sym spare i, sym processes i, is i)) (did.1, did.2, did.3, did.4) in record {
-              own = (
-                seat_after f s own s' u all_slots table spare processes who now (slots ∙ ap (λ zs. took ∷ zs) same) refl
-                    (subst (λ z. IsAtRest o n u z all_slots) (sym kept) did.0),
-                who,
-              );
-              access = h.0;
-              answer = subst (λ z. IsReadAccess z (reads_of s j) (reads_of s' j) x) own.opening h.1;
-              others = (h.2, h.3);
-            }
+      -- a whole read
+      pub has_read : (fits : T → Type 0) (rises : T → T → Type 0) (m : Me T (View (FourSlotSight T))) (slot : ℕ) (moved : Bool)
+          (s' : FourSlotSeat T) →
+          (h : HasLooked fits rises cell (known_by s) (column_at f s own j other).notes s.seat.inner.me m slot moved) →
+          s'.seat.inner.me ≡ m → s'.seat.inner.table_id ≡ s.seat.inner.table_id → s'.spare ≡ s.spare → s'.processes ≡ s.processes →
+          s'.who ≡ s.who → s'.stored ≡ record s.stored { reads = set s.stored.reads j slot } → HasRead f s s' j h.answer
+      has_read fits rises m slot moved s' h me table spare processes who kept =
+          let o : T = s.spare in
+          let n : ℕ = s.processes in
+          let v : Process (FourSlotSight T) = known_by s in
+          let column = column_at f s own j other in
+          let g : ReaderNotes T = column.notes in
+          let g2 : ReaderNotes T = said_with (asked_by g h.pair h.asked) h.count h.said in
+          let v2 : Process (FourSlotSight T) =
+          has_said (has_asked v cell g h.pair h.asked s.seat.inner.me.1) cell (asked_by g h.pair h.asked) h.count h.said
+          (h.before ++ h.behind) in
+          let taken : ℕ → List (ℕ × T) = λ z. (slot_at cell z, h.answer) ∷ (h.before ++ h.behind) in
+          let all_slots : List (ℕ × T) = taken (slot_number (slot_with h.pair h.index)) in
+          let after_read : List (ℕ × T) → Process (FourSlotSight T) =
+          λ cs. knows Spent v2 cell (Reader (got_by g2 h.index h.answer h.took h.number h.writes)) h.took (held_slots cs) in
+          let u : Process (FourSlotSight T) = after_read all_slots in
+          let old : Stored = s.stored in
+          let new : Stored = record old { reads = set old.reads j slot } in
+          let many : n ≤ length old.reads = own.rest.long.1 in
+          let low : j < n = within f s own j other in
+          let kept_column : IsNewColumn old new j (slot_number (slot_with h.pair h.index)) = record {
+            here = get_set_here old.reads j slot 0 (let z : j < length old.reads = omega arith in z) ∙ h.slot_is;
+            others = λ i ne. get_set_else old.reads j i slot 0 ne;
+            long = set_long old.reads j slot;
+            shown = refl;
+          } in
+          let did = a_read o n v old new h.before h.behind j g h.pair h.answer h.asked h.said h.took h.number h.count h.index h.writes
+          (held_slots s.seat.inner.me.1) (held_slots (h.before ++ h.behind)) cell (column_place f s own j other cell at)
+          (within f s own j other) (apart f s own j other) (subst (λ zs. IsAtRest o n v old zs) h.had own.rest)
+          (column_notes f s own j other cell at) column.opened h.later.0 h.later.1 h.after.0 h.did h.heeds kept_column in
+          let now : s'.seat.inner.me.0 ≡ Has (u ∷ []) =
+          ap (λ z. z.0) me ∙ (h.after.1 ∙ ap (λ z. Has (after_read (taken z) ∷ [])) h.slot_is) in
+          let slots : s'.seat.inner.me.1 ≡ all_slots = ap (λ z. z.1) me ∙ (h.after.2 ∙ ap taken h.slot_is) in
+          let is : u ≡ known_by s' = sym (ap process_of now) in
+          let all : (T × ℕ × Process (FourSlotSight T)) → Type 0 = λ z.
+          IsAccess 3 v.clock z.2.clock v.times z.2.times (reads_from o n v j).times (reads_from z.0 z.1 z.2 j).times
+          × IsReadAccess o (reads_from o n v j) (reads_from z.0 z.1 z.2 j) h.answer
+          × KeepsOthers j (reads_from o n v) (reads_from z.0 z.1 z.2) × KeepsEach (writes_to o n v) (writes_to z.0 z.1 z.2) in
+          let seen = subst all (λ i. (sym spare i, sym processes i, is i)) (did.1, did.2, did.3, did.4) in record {
+            own = (
+              seat_after f s own s' u all_slots table spare processes who now slots refl
+                  (subst (λ z. IsAtRest o n u z all_slots) (sym kept) did.0),
+              who,
+            );
+            access = seen.0;
+            answer = subst (λ z. IsReadAccess z (reads_of s j) (reads_of s' j) h.answer) own.opening seen.1;
+            others = (seen.2, seen.3);
+          }

@@ -1,14 +1,16 @@
 -- What the steps of a call need, of a seat that is one of the family's: each step leaves the notes with which the next one goes on.
 use Rattle.std.proofs.Common.{◌≡◌, ◌≢◌, ℕ, zero, suc, ◌+◌, ◌*◌, ◌<◌, Bool, List, [], ◌∷◌, length, get_or, set, refl, sym, ap, ◌∙◌, subst}
-use Rattle.std.proofs.Common.{arith}
+use Rattle.std.proofs.Common.{arith, ◌/◌, Option, None, Some}
 use Rattle.atomic_table.specs.Table.{Me}
-use Rattle.four_slot_core.specs.Events.{bit_number}
-use Rattle.cell_contract.specs.Running.{held_slots}
-use Rattle.cell_four_slot.proofs.Slots.{bit_low}
+use Rattle.four_slot_core.specs.declared.state.Slot.{Slot}
+use Rattle.four_slot_core.specs.Events.{bit_number, slot_number}
+use Rattle.cell_contract.specs.Accesses.{ReadAccesses}
+use Rattle.cell_contract.specs.Running.{held_slots, last_or}
+use Rattle.cell_four_slot.proofs.Slots.{bit_low, number_of_slot, slot_low}
 use Rattle.cell_four_slot.specs.declared.notes.WriterNotes.{WriterNotes}
 use Rattle.cell_four_slot.specs.declared.notes.ReaderNotes.{ReaderNotes}
 use Rattle.cell_contract.specs.declared.sight.Sight.TheVariants.{Spent, Writer, Reader}
-use Rattle.cell_four_slot.specs.Steps.{FourSlotSight}
+use Rattle.cell_four_slot.specs.Steps.{FourSlotSight, word_said}
 use Rattle.family_four_slot.specs.declared.family.FourSlotFamily.{FourSlotFamily}
 use Rattle.family_four_slot.specs.Seated.{FourSlotSeat}
 use Rattle.family_table.specs.declared.notes.Process.{Process}
@@ -18,12 +20,12 @@ use Rattle.family_table.specs.Family.{of_cell, knows}
 use Rattle.family_table.specs.Places.{place}
 use Rattle.family_four_slot.specs.Places.{four_slots, word_at}
 use Rattle.family_table.specs.Seated.{known_by, number_of}
-use Rattle.family_four_slot.specs.Seated.{processes_of, writes_of, IsSeat}
+use Rattle.family_four_slot.specs.Seated.{opening_of, processes_of, writes_of, reads_of, IsSeat}
 use Rattle.family_four_slot.specs.Steps.{After}
 use Rattle.family_four_slot.specs.Tables.{HasProcess, HasWriter, HasReader}
 use Rattle.family_table.specs.Views.{process_of}
-use Rattle.family_four_slot.specs.Words.{shown_to, IsAtRest, IsRow, IsColumn}
-use Rattle.family_four_slot.proofs.Calls.{sees_writes}
+use Rattle.family_four_slot.specs.Words.{number_chosen, shown_to, IsAtRest, IsRow, IsColumn}
+use Rattle.family_four_slot.proofs.Calls.{sees_reads, sees_writes}
 use Rattle.family_table.proofs.Places.{place_in}
 use Rattle.family_four_slot.proofs.Places.{bit_word}
 use Rattle.family_table.proofs.Slices.{get_set_here, set_long}
@@ -37,6 +39,16 @@ pair_word cell pair b e = bit_word cell pair ∙ ap (λ z. word_at cell (2 + z))
 
 pub pair_low : (b : Bool) → 2 + bit_number b < 4
 pair_low b = let l = bit_low b in omega arith
+
+-- of the slot that a seat remembers, the half is what `reading` has
+pub half_chosen : (pair slot : ℕ) (ch : Option Slot) → pair ≡ slot / 2 → slot ≡ number_chosen ch → pair ≡ word_said ch
+half_chosen pair slot None half is = omega arith
+half_chosen pair slot (Some k) half is = let low = bit_low k.index in omega arith
+
+-- a slot of this number is the one that the seat remembers
+pub is_chosen : (slot : ℕ) (ch : Option Slot) (k : Slot) → slot ≡ number_chosen ch → slot ≡ slot_number k → ch ≡ Some k
+is_chosen slot None k is number = let low = slot_low k in absurd (omega arith)
+is_chosen slot (Some j) k is number = ap Some (number_of_slot j k (sym is ∙ number))
 
 -- an element that isn't the default stands there
 pub there : (xs : List (List ℕ)) (i a : ℕ) (bs : List ℕ) → a ∷ bs ≡ get_or xs i [] → i < length xs
@@ -87,7 +99,7 @@ module _ {T : Type 0} where
 
     abbrev pub column_at : IsColumn s.spare (place s.processes j (known_by s).who)
         (of_cell Spent (place s.processes j (known_by s).who) (known_by s).parts)
-        (get_or s.stored.said j 0) s.seat.inner.me.1
+        (get_or s.stored.reads j 0) s.seat.inner.me.1
     column_at = own.rest.column j within apart
 
     -- the cell that the seat's process writes, by its number
@@ -134,6 +146,12 @@ module _ {T : Type 0} where
 
       pub column_reader : HasReader s.seat.inner.me cell (known_by s) column_at.notes
       column_reader = record { process = record { one = own.one; has = column_long; held = own.rest.held }; notes = column_notes }
+
+    -- the record at hand is the last answer, as contracts see what was read before
+    pub column_last : column_at.notes.at_hand.value ≡ last_or (opening_of f) (reads_of s j).answers
+    column_last =
+        let seen = sees_reads s.spare s.processes (known_by s) (known_by s).who j column_at.notes apart refl column_at.is in
+        column_at.last ∙ ap (λ (z : T × ReadAccesses T). last_or z.0 z.1.answers) (λ i. (own.opening i, sym seen i))
 
   module _ (f : FourSlotFamily T) (s : FourSlotSeat T) (own : IsSeat f s) where
     -- the seat after a call

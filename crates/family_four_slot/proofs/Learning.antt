@@ -2,14 +2,13 @@
 use Rattle.std.proofs.Common.{◌≡◌, ◌≢◌, ℕ, ◌+◌, ◌*◌, ◌<◌, ◌≤◌, cond, List, length, get_or, refl, sym, ap, ◌∙◌, subst, arith, ⊎_elim}
 use Rattle.std.proofs.Common.{mul-le-mul_right}
 use Rattle.std.proofs.lemmas.Bool.{cases_eq, cases_lt}
-use Rattle.four_slot_core.specs.declared.state.ReaderStage.TheVariants as reader
 use Rattle.cell_contract.specs.Running.{snap}
 use Rattle.cell_contract.specs.Sights.{writer_or, reader_or}
 use Rattle.cell_contract.specs.declared.times.Dated.{Dated}
 use Rattle.cell_four_slot.specs.declared.notes.WriterNotes.{WriterNotes}
 use Rattle.cell_four_slot.specs.declared.notes.ReaderNotes.{ReaderNotes}
 use Rattle.cell_contract.specs.declared.sight.Sight.TheVariants.{Spent, Told, Writer, Reader, Both}
-use Rattle.cell_four_slot.specs.Steps.{FourSlotSight, first_writer, first_reader, receipt_for, heard_by as cell_heard, hears_of, word_said}
+use Rattle.cell_four_slot.specs.Steps.{FourSlotSight, first_writer, first_reader, receipt_for, heard_by as cell_heard, hears_of}
 use Rattle.cell_contract.specs.Accesses.{IsHeardRead, KeepsEach, KeepsOthers, ReadAccesses}
 use Rattle.family_four_slot.specs.declared.family.Stored.{Stored}
 use Rattle.family_table.specs.declared.notes.Process.{Process}
@@ -17,7 +16,7 @@ use Rattle.family_table.specs.declared.notes.Receipt.{Receipt}
 use Rattle.family_table.specs.Family.{of_cell, heard_by}
 use Rattle.family_four_slot.specs.FourSlots.{Idle}
 use Rattle.family_table.specs.Places.{place, writer_of}
-use Rattle.family_four_slot.specs.Words.{writes_to, reads_from, HasSlots, IsAtRest, IsColumn}
+use Rattle.family_four_slot.specs.Words.{writes_to, reads_from, IsAtRest, IsColumn}
 use Rattle.family_four_slot.proofs.Calls.{sees_reads}
 use Rattle.family_four_slot.specs.Cells.{deaf, mute}
 use Rattle.family_table.proofs.Seats.{same_number}
@@ -61,20 +60,21 @@ module _ {T : Type 0} where
   writes_heard d (Writer p) y = refl
   writes_heard d (Both p g) y = refl
 
-  column_heard : (o : T) (k : ℕ) (g : ReaderNotes T) (y : FourSlotSight T) (said : ℕ) (cs : List (ℕ × T)) → g.stage ≡ reader.R5 →
-      g.opening.value ≡ o → HasSlots k g cs → said ≡ word_said g.chosen → IsColumn o k (hears_of (Reader g) y) said cs
-  column_heard o k g (Told x) said cs i p s w = record {
-    notes = cell_heard g x.value;
+  column_heard : (o : T) (k : ℕ) (part y : FourSlotSight T) (slot : ℕ) (cs : List (ℕ × T)) → (c : IsColumn o k part slot cs) →
+      IsColumn o k (hears_of (Reader c.notes) y) slot cs
+  column_heard o k part (Told x) slot cs c = record {
+    notes = cell_heard c.notes x.value;
     is = refl;
-    idle = i;
-    opened = p;
-    slots = s;
-    stored = w;
+    idle = c.idle;
+    opened = c.opened;
+    slots = c.slots;
+    chosen = c.chosen;
+    last = c.last;
   }
-  column_heard o k g Spent said cs i p s w = record { notes = g; is = refl; idle = i; opened = p; slots = s; stored = w }
-  column_heard o k g (Writer q) said cs i p s w = record { notes = g; is = refl; idle = i; opened = p; slots = s; stored = w }
-  column_heard o k g (Reader q) said cs i p s w = record { notes = g; is = refl; idle = i; opened = p; slots = s; stored = w }
-  column_heard o k g (Both q h) said cs i p s w = record { notes = g; is = refl; idle = i; opened = p; slots = s; stored = w }
+  column_heard o k part Spent slot cs c = subst (λ z. IsColumn o k z slot cs) c.is c
+  column_heard o k part (Writer q) slot cs c = subst (λ z. IsColumn o k z slot cs) c.is c
+  column_heard o k part (Reader q) slot cs c = subst (λ z. IsColumn o k z slot cs) c.is c
+  column_heard o k part (Both q h) slot cs c = subst (λ z. IsColumn o k z slot cs) c.is c
 
   module _ (o : T) (n : ℕ) (v : Process (FourSlotSight T)) (r : Receipt (FourSlotSight T)) (kept : Stored) (cs : List (ℕ × T))
       (rest : IsAtRest o n v kept cs) where
@@ -106,8 +106,8 @@ module _ {T : Type 0} where
       column = λ j lj ne.
           let k : ℕ = place n j v.who in
           let g = rest.column j lj ne in
-          subst (λ z. IsColumn o k z (get_or kept.said j 0) cs) (sym (part k ∙ ap (λ z. hears_of z (of_cell Spent k r.parts)) g.is))
-          (column_heard o k g.notes (of_cell Spent k r.parts) (get_or kept.said j 0) cs g.idle g.opened g.slots g.stored);
+          subst (λ z. IsColumn o k z (get_or kept.reads j 0) cs) (sym (part k ∙ ap (λ z. hears_of z (of_cell Spent k r.parts)) g.is))
+          (column_heard o k (of_cell Spent k v.parts) (of_cell Spent k r.parts) (get_or kept.reads j 0) cs g);
     }
 
     pub writes_stay : KeepsEach (writes_to o n v) (writes_to o n u)

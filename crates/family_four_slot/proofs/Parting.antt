@@ -48,7 +48,7 @@ all_same (suc m) (suc j) x d l = all_same m j x d (omega arith)
 
 -- what a process remembers that has stored nothing
 abbrev pub unstored : Stored
-unstored = record { shown = replicate 16 (record { bits = 0 ∷ 0 ∷ []; latest = 0 }); said = replicate 16 2 }
+unstored = record { shown = replicate 16 (record { bits = 0 ∷ 0 ∷ []; latest = 0 }); reads = replicate 16 4 }
 
 module _ {T : Type 0} where
   -- the seats of the first processes were parted off
@@ -78,8 +78,8 @@ module _ {T : Type 0} where
           who = number;
           me = my ∙ ap (λ z. (first_of z.0, [])) now;
           shown = λ j lj. ap (λ z. shown_to z j) bits ∙ all_same 16 j (record { bits = 0 ∷ 0 ∷ []; latest = 0 }) none_shown lj;
-          said = λ j lj. ap (λ (z : Stored). get_or z.said j 0) bits ∙ all_same 16 j 2 0 lj;
-          long = (ap (λ (z : Stored). length z.shown) bits, ap (λ (z : Stored). length z.said) bits);
+          reads = λ j lj. ap (λ (z : Stored). get_or z.reads j 0) bits ∙ all_same 16 j 4 0 lj;
+          long = (ap (λ (z : Stored). length z.shown) bits, ap (λ (z : Stored). length z.reads) bits);
         }));
       }
 
@@ -118,9 +118,9 @@ module _ {T : Type 0} where
     v = first_process o n i
 
     pub first_rest : (kept : Stored) → i < n → n ≤ 16 → ((j : ℕ) → j < 16 → shown_to kept j ≡ record { bits = 0 ∷ 0 ∷ []; latest = 0 }) →
-        ((j : ℕ) → j < 16 → get_or kept.said j 0 ≡ 2) →
-        (length kept.shown ≡ 16) × (length kept.said ≡ 16) → IsAtRest o n v kept []
-    first_rest kept li most shown said long = record {
+        ((j : ℕ) → j < 16 → get_or kept.reads j 0 ≡ 4) →
+        (length kept.shown ≡ 16) × (length kept.reads ≡ 16) → IsAtRest o n v kept []
+    first_rest kept li most shown reads long = record {
       inside = li;
       long = (subst (λ z. n ≤ z) (sym long.0) most, subst (λ z. n ≤ z) (sym long.1) most);
       parts = upto_long (first_part o n i) 0 (n * n);
@@ -161,7 +161,8 @@ module _ {T : Type 0} where
             idle = refl;
             opened = refl;
             slots = ([], [], refl);
-            stored = said j (omega arith);
+            chosen = reads j (omega arith);
+            last = refl;
           };
     } where
       silent : (b : Bool) → receipt_for (cond b (Reader (first_reader o)) Spent) ≡ Spent
@@ -186,9 +187,9 @@ module _ {T : Type 0} where
     pub first_shape : i < n → n ≤ 16 → IsInShape n i v
     first_shape li most =
         let none_yet : Shown = record { bits = 0 ∷ 0 ∷ []; latest = 0 } in
-        let unsaid : ℕ = 2 in
-        let rest = first_rest unstored li most (λ j lj. all_same 16 j none_yet none_shown lj) (λ j lj. all_same 16 j unsaid 0 lj)
-        (replicate_long 16 none_yet, replicate_long 16 unsaid) in record {
+        let unread : ℕ = 4 in
+        let rest = first_rest unstored li most (λ j lj. all_same 16 j none_yet none_shown lj) (λ j lj. all_same 16 j unread 0 lj)
+        (replicate_long 16 none_yet, replicate_long 16 unread) in record {
           row = λ j lj ne. let row = rest.row j lj ne in (row.notes, row.is);
           column = λ j lj ne. let column = rest.column j lj ne in (column.notes, column.is);
         }
@@ -207,7 +208,7 @@ module _ {T : Type 0} where
       (IsSeat f s × (number_of s ≡ i)) × IsUnused (clock_of s) (times_of s) (writes_of s) (reads_of s)
   first_seat f n o i s opens many li most h =
       let is : known_by s ≡ first_process o n i = ap (λ z. process_of z.0) h.me in
-      let rest = first_rest o n i s.stored li most h.shown h.said h.long in (
+      let rest = first_rest o n i s.stored li most h.shown h.reads h.long in (
         (
           record {
             table = h.table;

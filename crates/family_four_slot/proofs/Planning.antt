@@ -16,7 +16,7 @@ use Rattle.family_table.specs.Seated.{known_by, number_of, times_of}
 use Rattle.family_table.proofs.Frames.{IsChanged, changed, changed_again}
 use Rattle.family_table.proofs.Places.{column_apart, row_apart}
 use Rattle.family_four_slot.specs.declared.family.FourSlotFamily.{FourSlotFamily}
-use Rattle.family_four_slot.specs.Plans.{done_by, plan_of, DoesAsPlanned, MayAnnounce, MayBegin, MayPublish, MayTake}
+use Rattle.family_four_slot.specs.Plans.{done_by, plan_of, DoesAsPlanned, MayBegin, MayLook, MayPublish, MayTake}
 use Rattle.family_four_slot.specs.Seated.{FourSlotSeat, opening_of, processes_of, limit_of, writes_of, reads_of, IsSeat}
 use Rattle.family_four_slot.proofs.Calls.{sees_reads, sees_writes}
 use Rattle.family_four_slot.proofs.Frames.{other_reads, other_writes, same_reads, same_writes}
@@ -130,41 +130,43 @@ module _ {T : Type 0} (o : T) (n : ℕ) (plan : ℕ → Doings T → Type 0) (j 
     abbrev c : ℕ
     c = place n j v.who
 
-    pub may_announce : MayAnnounce Plan c v g
-    may_announce = (
+    pub may_look : MayLook Plan c v g
+    may_look = (
       (λ b t h l.
           let g1 : ReaderNotes T = asked_by g b t in
           let u1 : Process V = knows Spent v c (Reader g1) t h in
           may 1 (done_by o n u1) (omega arith) (omega arith)
           (read_so_far o n j v u1 1 (t ∷ []) refl refl ne g g1 [] lj li (changed Spent v c t (Reader g1) h has) is
           (sym (append-nil g.answers)) refl (sym (append-nil g.times.ends)))),
-      (λ b t h l count t2 h2 l2.
+      (λ b t h l. (
+        (λ count t2 h2 l2.
+            let g1 : ReaderNotes T = asked_by g b t in
+            let u1 : Process V = knows Spent v c (Reader g1) t h in
+            let c1 = changed Spent v c t (Reader g1) h has in
+            let g2 : ReaderNotes T = said_with g1 count t2 in
+            let u2 : Process V = knows Spent u1 c (Reader g2) t2 h2 in
+            may 2 (done_by o n u2) (omega arith) (omega arith)
+            (read_so_far o n j v u2 2 (t ∷ t2 ∷ []) refl (two_more v.times t t2) ne g g2 [] lj li
+            (changed_again Spent v u1 c t2 (Reader g1) (Reader g2) h2 has c1) is
+            (sym (append-nil g.answers)) refl (sym (append-nil g.times.ends)))),
+        (λ count t2 h2 l2. may_take b t h count t2 h2),
+      )),
+    ) where
+      may_take : (b : Bool) (t : ℕ) (h : List ℕ) (count t2 : ℕ) (h2 : List ℕ) → MayTake Plan c
+          (knows Spent (knows Spent v c (Reader (asked_by g b t)) t h) c (Reader (said_with (asked_by g b t) count t2)) t2 h2)
+          (said_with (asked_by g b t) count t2)
+      may_take b t h count t2 h2 bit x t3 number writes h3 l3 =
           let g1 : ReaderNotes T = asked_by g b t in
           let u1 : Process V = knows Spent v c (Reader g1) t h in
           let c1 = changed Spent v c t (Reader g1) h has in
           let g2 : ReaderNotes T = said_with g1 count t2 in
           let u2 : Process V = knows Spent u1 c (Reader g2) t2 h2 in
-          may 2 (done_by o n u2) (omega arith) (omega arith)
-          (read_so_far o n j v u2 2 (t ∷ t2 ∷ []) refl (two_more v.times t t2) ne g g2 [] lj li
-          (changed_again Spent v u1 c t2 (Reader g1) (Reader g2) h2 has c1) is
-          (sym (append-nil g.answers)) refl (sym (append-nil g.times.ends)))),
-    )
-
-    pub may_take : (b : Bool) (t : ℕ) (h : List ℕ) (count t2 : ℕ) (h2 : List ℕ) →
-        MayTake Plan c (knows Spent (knows Spent v c (Reader (asked_by g b t)) t h) c (Reader (said_with (asked_by g b t) count t2)) t2 h2)
-        (said_with (asked_by g b t) count t2)
-    may_take b t h count t2 h2 bit x t3 number writes h3 l3 =
-        let g1 : ReaderNotes T = asked_by g b t in
-        let u1 : Process V = knows Spent v c (Reader g1) t h in
-        let c1 = changed Spent v c t (Reader g1) h has in
-        let g2 : ReaderNotes T = said_with g1 count t2 in
-        let u2 : Process V = knows Spent u1 c (Reader g2) t2 h2 in
-        let c2 = changed_again Spent v u1 c t2 (Reader g1) (Reader g2) h2 has c1 in
-        let g3 : ReaderNotes T = got_by g2 bit x t3 number writes in
-        let u3 : Process V = knows Spent u2 c (Reader g3) t3 h3 in
-        may 3 (done_by o n u3) (omega arith) (omega arith)
-        (read_so_far o n j v u3 3 (t ∷ t2 ∷ t3 ∷ []) refl (three_more v.times t t2 t3) ne g g3 (x ∷ []) lj li
-        (changed_again Spent v u2 c t3 (Reader g2) (Reader g3) h3 has c2) is refl refl refl)
+          let c2 = changed_again Spent v u1 c t2 (Reader g1) (Reader g2) h2 has c1 in
+          let g3 : ReaderNotes T = got_by g2 bit x t3 number writes in
+          let u3 : Process V = knows Spent u2 c (Reader g3) t3 h3 in
+          may 3 (done_by o n u3) (omega arith) (omega arith)
+          (read_so_far o n j v u3 3 (t ∷ t2 ∷ t3 ∷ []) refl (three_more v.times t t2 t3) ne g g3 (x ∷ []) lj li
+          (changed_again Spent v u2 c t3 (Reader g2) (Reader g3) h3 has c2) is refl refl refl)
 
 -- the same of a seat, by the words of its family
 module _ {T : Type 0} (plan : T → ℕ → ℕ → ℕ → ℕ → Doings T → Type 0) (f : FourSlotFamily T) (s : FourSlotSeat T) (own : IsSeat f s)
@@ -214,24 +216,10 @@ module _ {T : Type 0} (plan : T → ℕ → ℕ → ℕ → ℕ → Doings T →
     column_has : place s.processes j (known_by s).who < length (known_by s).parts
     column_has = subst (λ z. z < length (known_by s).parts) (column_place f s own j other cell at) (column_long f s own j other cell at)
 
-    pub seat_may_announce : MayAnnounce OfFamily cell (known_by s) (column_at f s own j other).notes
-    seat_may_announce =
+    pub seat_may_look : MayLook OfFamily cell (known_by s) (column_at f s own j other).notes
+    seat_may_look =
         let g : ReaderNotes T = (column_at f s own j other).notes in
-        subst (λ (z : T × ℕ × ℕ). MayAnnounce (DoesAsPlanned plan z.0 (limit_of f) z.1) z.2 (known_by s) g)
+        subst (λ (z : T × ℕ × ℕ). MayLook (DoesAsPlanned plan z.0 (limit_of f) z.1) z.2 (known_by s) g)
         (λ i. (own.opening i, own.processes i, sym (column_place f s own j other cell at) i))
-        (may_announce s.spare s.processes (plan s.spare 3 s.processes (limit_of f)) j (known_by s) (apart f s own j other) g
+        (may_look s.spare s.processes (plan s.spare 3 s.processes (limit_of f)) j (known_by s) (apart f s own j other) g
         (within f s own j other) own.rest.inside column_has (column_at f s own j other).is mine_to_read)
-
-    pub seat_may_take : (b : Bool) (t : ℕ) (h : List ℕ) (count t2 : ℕ) (h2 : List ℕ) →
-        let g : ReaderNotes T = (column_at f s own j other).notes in
-        MayTake OfFamily cell
-        (knows Spent (knows Spent (known_by s) cell (Reader (asked_by g b t)) t h) cell
-        (Reader (said_with (asked_by g b t) count t2)) t2 h2) (said_with (asked_by g b t) count t2)
-    seat_may_take b t h count t2 h2 =
-        let g : ReaderNotes T = (column_at f s own j other).notes in
-        subst (λ (z : T × ℕ × ℕ). MayTake (DoesAsPlanned plan z.0 (limit_of f) z.1) z.2
-        (knows Spent (knows Spent (known_by s) z.2 (Reader (asked_by g b t)) t h) z.2
-        (Reader (said_with (asked_by g b t) count t2)) t2 h2) (said_with (asked_by g b t) count t2))
-        (λ i. (own.opening i, own.processes i, sym (column_place f s own j other cell at) i))
-        (may_take s.spare s.processes (plan s.spare 3 s.processes (limit_of f)) j (known_by s) (apart f s own j other) g
-        (within f s own j other) own.rest.inside column_has (column_at f s own j other).is mine_to_read b t h count t2 h2)

@@ -10,7 +10,7 @@ use Rattle.cell_contract.specs.Running.{last_or, held_slots}
 use Rattle.cell_four_slot.specs.declared.notes.WriterNotes.{WriterNotes}
 use Rattle.cell_four_slot.specs.declared.notes.ReaderNotes.{ReaderNotes}
 use Rattle.cell_contract.specs.declared.sight.Sight.TheVariants.{Spent, Writer, Reader}
-use Rattle.cell_four_slot.specs.Steps.{FourSlotSight, bit_words, slot_of_choice, word_said, receipt_for}
+use Rattle.cell_four_slot.specs.Steps.{FourSlotSight, bit_words, slot_of_choice, receipt_for}
 use Rattle.cell_four_slot.proofs.Slots.{slot_low}
 use Rattle.family_four_slot.specs.declared.family.Stored.{Stored}
 use Rattle.family_table.specs.declared.notes.Process.{Process}
@@ -20,22 +20,22 @@ use Rattle.family_four_slot.specs.Places.{slot_at}
 use Rattle.family_table.specs.Family.{of_cell}
 use Rattle.family_four_slot.specs.FourSlots.{Idle}
 use Rattle.family_four_slot.specs.declared.family.Shown.{Shown}
-use Rattle.family_four_slot.specs.Words.{none_shown, shown_to, IsAtRest, IsRow, IsColumn, HasSlots}
+use Rattle.family_four_slot.specs.Words.{none_shown, number_chosen, shown_to, IsAtRest, IsRow, IsColumn, HasSlots}
 use Rattle.family_table.proofs.Places.{place_apart, writer_there}
 use Rattle.family_four_slot.proofs.Places.{is_layout}
 use Rattle.family_table.proofs.Frames.{IsChanged}
 
--- a seat remembers what it stored last in the cell to process j, or in the one from it, and of the others what it did
+-- a seat remembers what it stored last in the cell to process j, or the slot that it took in the one from it, and of the others what it did
 pub record IsNewRow (kept kept' : Stored) (j : ℕ) (bits : List ℕ) (latest : ℕ) : Type 0 where
   pub here : (bits ≡ (shown_to kept' j).bits) × ((shown_to kept' j).latest ≡ latest)
   pub others : (i : ℕ) → i ≢ j → shown_to kept' i ≡ shown_to kept i
   pub long : length kept'.shown ≡ length kept.shown
-  pub said : kept'.said ≡ kept.said
+  pub reads : kept'.reads ≡ kept.reads
 
-pub record IsNewColumn (kept kept' : Stored) (j said : ℕ) : Type 0 where
-  pub here : get_or kept'.said j 0 ≡ said
-  pub others : (i : ℕ) → i ≢ j → get_or kept'.said i 0 ≡ get_or kept.said i 0
-  pub long : length kept'.said ≡ length kept.said
+pub record IsNewColumn (kept kept' : Stored) (j slot : ℕ) : Type 0 where
+  pub here : get_or kept'.reads j 0 ≡ slot
+  pub others : (i : ℕ) → i ≢ j → get_or kept'.reads i 0 ≡ get_or kept.reads i 0
+  pub long : length kept'.reads ≡ length kept.reads
   pub shown : kept'.shown ≡ kept.shown
 
 -- of two elements of a list, one is taken away
@@ -111,7 +111,7 @@ module _ {T : Type 0} (o : T) (n : ℕ) where
             ap receipt_for (c.others i away) ∙ r.quiet i (λ e. nw (e ∙ sym who));
         long = (
           subst (λ z. n ≤ z) (sym kept_row.long) r.long.0,
-          subst (λ (zs : List ℕ). n ≤ length zs) (sym kept_row.said) r.long.1,
+          subst (λ (zs : List ℕ). n ≤ length zs) (sym kept_row.reads) r.long.1,
         );
         row = λ i li nw.
             let other : i ≢ v.who = λ h. nw (h ∙ sym who) in
@@ -133,18 +133,19 @@ module _ {T : Type 0} (o : T) (n : ℕ) where
             (cases_eq i j));
         column = λ i li nw.
             let other : i ≢ v.who = λ h. nw (h ∙ sym who) in
-            subst (λ z. IsColumn o (place n i z) (of_cell Spent (place n i z) u.parts) (get_or kept'.said i 0) cs) (sym who)
+            subst (λ z. IsColumn o (place n i z) (of_cell Spent (place n i z) u.parts) (get_or kept'.reads i 0) cs) (sym who)
             (subst (λ (z : V × ℕ). IsColumn o (place n i v.who) z.0 z.1 cs)
-            (λ h. (sym (c.others (place n i v.who) (theirs i li other)) h, get_or (sym kept_row.said h) i 0)) (r.column i li other));
+            (λ h. (sym (c.others (place n i v.who) (theirs i li other)) h, get_or (sym kept_row.reads h) i 0)) (r.column i li other));
       }
 
   -- and after a read from process j
   pub rest_read : (v u : Process V) (kept kept' : Stored) (before behind : List (ℕ × T)) (y : ℕ × T) (j : ℕ) (g h : ReaderNotes T) → j < n →
       j ≢ v.who → IsAtRest o n v kept (before ++ (shift (slot_at (place n j v.who)) (slot_of_choice g.chosen g.at_hand.value) ++ behind)) →
       IsChanged Spent v u (place n j v.who) (Reader h) → h.stage ≡ reader.R5 → h.opening.value ≡ o →
-      HasSlots (place n j v.who) h (y ∷ (before ++ behind)) → IsNewColumn kept kept' j (word_said h.chosen) →
+      h.at_hand.value ≡ last_or o h.answers →
+      HasSlots (place n j v.who) h (y ∷ (before ++ behind)) → IsNewColumn kept kept' j (number_chosen h.chosen) →
       u.held ≡ held_slots (y ∷ (before ++ behind)) → IsAtRest o n u kept' (y ∷ (before ++ behind))
-  rest_read v u kept kept' before behind y j g h lj ne r c idle opened slots kept_column held =
+  rest_read v u kept kept' before behind y j g h lj ne r c idle opened last slots kept_column held =
       let k : ℕ = place n j v.who in
       let who : u.who ≡ v.who = c.who in
       let mine : (i : ℕ) → i < n → i ≢ v.who → place n v.who i ≢ k =
@@ -170,11 +171,19 @@ module _ {T : Type 0} (o : T) (n : ℕ) where
             (λ q. (sym (c.others (place n v.who i) (mine i li other)) q, sym kept_column.shown q)) (r.row i li other));
         column = λ i li nw.
             let other : i ≢ v.who = λ q. nw (q ∙ sym who) in
-            subst (λ z. IsColumn o (place n i z) (of_cell Spent (place n i z) u.parts) (get_or kept'.said i 0) (y ∷ (before ++ behind)))
+            subst (λ z. IsColumn o (place n i z) (of_cell Spent (place n i z) u.parts) (get_or kept'.reads i 0) (y ∷ (before ++ behind)))
             (sym who) (⊎_elim
-            (λ (e : i ≡ j). subst (λ z. IsColumn o (place n z v.who) (of_cell Spent (place n z v.who) u.parts) (get_or kept'.said z 0)
+            (λ (e : i ≡ j). subst (λ z. IsColumn o (place n z v.who) (of_cell Spent (place n z v.who) u.parts) (get_or kept'.reads z 0)
             (y ∷ (before ++ behind)))
-            (sym e) (record { notes = h; is = c.here; idle = idle; opened = opened; slots = slots; stored = kept_column.here }))
+            (sym e) (record {
+              notes = h;
+              is = c.here;
+              idle = idle;
+              opened = opened;
+              slots = slots;
+              chosen = kept_column.here;
+              last = last;
+            }))
             (λ (d : i ≢ j).
             let old = r.column i li other in
             let away = theirs i li other d in
@@ -185,7 +194,8 @@ module _ {T : Type 0} (o : T) (n : ℕ) where
               idle = old.idle;
               opened = old.opened;
               slots = slots_stay n k (place n i v.who) g old.notes before behind y away old.slots;
-              stored = old.stored;
+              chosen = old.chosen;
+              last = old.last;
             }))
             (cases_eq i j));
       }

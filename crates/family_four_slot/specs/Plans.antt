@@ -76,15 +76,21 @@ module _ {T : Type 0} (Plan : ℕ → Process (FourSlotSight T) → Type 0) (k :
   MayTake g = (b : Bool) (x : T) (t number : ℕ) (writes : Known T) (held : List ℕ) → v.clock < t →
       Plan v.who (knows Spent v k (Reader (got_by g b x t number writes)) t held)
 
--- W4 and W5, and R1 and R2
+-- W4 and W5, and R2 and R3
 module _ {T : Type 0} (Plan : ℕ → Process (FourSlotSight T) → Type 0) (k : ℕ) (v : Process (FourSlotSight T)) where
   abbrev pub MayPublish : WriterNotes T → Type 0
   MayPublish p = MayStore Plan k v p × ((t : ℕ) (held : List ℕ) → v.clock < t →
       MayFinish Plan k (knows Spent v k (Writer (stored_by p t)) t held) (stored_by p t))
 
-  abbrev pub MayAnnounce : ReaderNotes T → Type 0
-  MayAnnounce g = MayAsk Plan k v g × ((b : Bool) (t : ℕ) (held : List ℕ) → v.clock < t →
-      MaySay Plan k (knows Spent v k (Reader (asked_by g b t)) t held) (asked_by g b t))
+  abbrev pub MayGet : ReaderNotes T → Type 0
+  MayGet g = MaySay Plan k v g × ((count t : ℕ) (held : List ℕ) → v.clock < t →
+      MayTake Plan k (knows Spent v k (Reader (said_with g count t)) t held) (said_with g count t))
+
+-- R1 to R3
+abbrev pub MayLook : {T : Type 0} → (ℕ → Process (FourSlotSight T) → Type 0) → ℕ → Process (FourSlotSight T) →
+    ReaderNotes T → Type 0
+MayLook Plan k v g = MayAsk Plan k v g × ((b : Bool) (t : ℕ) (held : List ℕ) → v.clock < t →
+    MayGet Plan k (knows Spent v k (Reader (asked_by g b t)) t held) (asked_by g b t))
 
 -- a receipt changes nothing of what its learner has done, nor its shape
 module _ {T : Type 0} where

@@ -93,5 +93,5 @@ module _ {T : Type 0} where
     pub who : s.who ≡ i
     pub me : s.seat.inner.me ≡ (Has (first_process o n i ∷ []), [])
     pub shown : (j : ℕ) → j < 16 → shown_to s.stored j ≡ record { bits = 0 ∷ 0 ∷ []; latest = 0 }
-    pub said : (j : ℕ) → j < 16 → slice_index s.stored.said j ≡ 2
-    pub long : (length s.stored.shown ≡ 16) × (length s.stored.said ≡ 16)
+    pub reads : (j : ℕ) → j < 16 → slice_index s.stored.reads j ≡ 4
+    pub long : (length s.stored.shown ≡ 16) × (length s.stored.reads ≡ 16)

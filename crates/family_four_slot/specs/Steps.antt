@@ -1,7 +1,7 @@
 -- What each step tells a process of a family of four-slot cells: what the step of one cell tells, and the one time of
 -- it. The cell is the one whose word the step is on. A step here is one of the mechanism's: where an access makes two
 -- of them they have two times, as the second one's store is left out and would come next (this project's own).
-use Rattle.std.specs.Prelude.{◌≡◌, ◌≢◌, ℕ, ◌<◌, Bool, List, [], ◌∷◌, ◌++◌}
+use Rattle.std.specs.Prelude.{◌≡◌, ◌≢◌, ℕ, ◌<◌, Bool, Some, List, [], ◌∷◌, ◌++◌}
 use Rattle.atomic_table.specs.Table.{Me, Step}
 use Rattle.four_slot_core.specs.Events.{slot_with, bit_number, slot_number}
 use Rattle.cell_contract.specs.Intervals.{AreHeeded}
@@ -12,7 +12,7 @@ use Rattle.cell_four_slot.specs.declared.notes.ReaderNotes.{ReaderNotes}
 use Rattle.cell_contract.specs.declared.sight.Sight.TheVariants.{Spent, Writer, Reader}
 use Rattle.cell_four_slot.specs.Steps.{FourSlotSight, begun_with, stored_by, finished_with, asked_by}
 use Rattle.cell_four_slot.specs.Steps.{said_with, got_by, slot_of_choice}
-use Rattle.cell_four_slot.specs.Steps.{word_said, HasAnswered}
+use Rattle.cell_four_slot.specs.Steps.{HasAnswered}
 use Rattle.family_table.specs.declared.notes.Process.{Process}
 use Rattle.family_table.specs.declared.notes.View.{View}
 use Rattle.family_table.specs.declared.notes.View.TheVariants.{Has}
@@ -98,26 +98,10 @@ module _ {T : Type 0} where
       Process (FourSlotSight T)
   has_asked v k g b t cs = knows Spent v k (Reader (asked_by g b t)) t (held_slots cs)
 
-  -- R1; and R2 too, by no access and at the next time, where `reading` has the pair already:
-  -- its store would change nothing
-  abbrev pub asks_on : Step T → Sat T → ℕ → Sat T → Type 0
-  asks_on st m n m' = (k : ℕ) (v : Process (FourSlotSight T)) (g : ReaderNotes T) → st.word ≡ word_at k 0 →
-      m.0 ≡ Has (v ∷ []) → of_cell Spent k v.parts ≡ Reader g
-      → (b : Bool) × (t : ℕ) × (n ≡ bit_number b) × (v.clock < t)
-      × (n ≢ word_said g.chosen → After v k (Reader (asked_by g b t)) t m.1 m')
-      × (n ≡ word_said g.chosen → (before : List (ℕ × T)) × (behind : List (ℕ × T)) × (u : ℕ)
-      × (m.1 ≡ before ++ (shift (slot_at k) (slot_of_choice g.chosen g.at_hand.value) ++ behind))
-      × After (has_asked v k g b t m.1) k (Reader (said_with (asked_by g b t) 0 u)) u (before ++ behind) m')
-
-  -- R1 and R2, which take two times; R2 by no access where `reading` has the pair already,
-  -- and by one where it has another
-  abbrev pub announces : ℕ → Sat T → ℕ → Sat T → Type 0
-  announces k m n m' = (v : Process (FourSlotSight T)) (g : ReaderNotes T) → m.0 ≡ Has (v ∷ []) →
-      of_cell Spent k v.parts ≡ Reader g → (b : Bool) × (t : ℕ) × (u : ℕ) × (i : ℕ) × (before : List (ℕ × T))
-      × (behind : List (ℕ × T)) × (n ≡ bit_number b)
-      × (n ≡ word_said g.chosen → i ≡ 0) × (n ≢ word_said g.chosen → i ≡ 1)
-      × (m.1 ≡ before ++ (shift (slot_at k) (slot_of_choice g.chosen g.at_hand.value) ++ behind)) × (v.clock < t)
-      × After (has_asked v k g b t m.1) k (Reader (said_with (asked_by g b t) i u)) u (before ++ behind) m'
+  -- what a process knows after R2 and before R3
+  abbrev pub has_said : Process (FourSlotSight T) → ℕ → ReaderNotes T → ℕ → ℕ → List (ℕ × T) →
+      Process (FourSlotSight T)
+  has_said v k g count t cs = knows Spent v k (Reader (said_with g count t)) t (held_slots cs)
 
   -- R3, with R4 and R5
   abbrev pub takes : (T → Type 0) → (T → T → Type 0) → Step T → Sat T → ℕ → Sat T → Type 0
@@ -128,3 +112,18 @@ module _ {T : Type 0} where
       ((slot_at k (slot_number (slot_with g.slot.pair b)), x) ∷ m.1) m'
       × IsAnswer fits rises g.opening.value g.answers g.told x × HasAnswered g (got_by g b x t number writes) x
       × AreHeeded g.heard writes number
+
+  -- R2 and R3 at one load, where `reading` has the pair already: R2's store would change nothing, so it is made by no
+  -- access. The slot of the read before is given back and one is taken at once: if it is the same one, then with the
+  -- record that it had
+  abbrev pub takes_on : (T → Type 0) → (T → T → Type 0) → Step T → Sat T → ℕ → Sat T → Type 0
+  takes_on fits rises st m n m' = (k i : ℕ) (v : Process (FourSlotSight T)) (g : ReaderNotes T) → i < 4 →
+      st.word ≡ word_at k i → m.0 ≡ Has (v ∷ []) → of_cell Spent k v.parts ≡ Reader g
+      → (c : ℕ) × (before : List (ℕ × T)) × (behind : List (ℕ × T)) × (b : Bool) × (x : T) × (t : ℕ) × (number : ℕ)
+      × (writes : Known T) × (m.1 ≡ before ++ (shift (slot_at k) (slot_of_choice g.chosen g.at_hand.value) ++ behind))
+      × (v.clock < c) × (n ≡ bit_number b)
+      × After (has_said v k g 0 c (before ++ behind)) k (Reader (got_by (said_with g 0 c) b x t number writes)) t
+      ((slot_at k (slot_number (slot_with g.slot.pair b)), x) ∷ (before ++ behind)) m'
+      × IsAnswer fits rises g.opening.value g.answers g.told x
+      × HasAnswered (said_with g 0 c) (got_by (said_with g 0 c) b x t number writes) x × AreHeeded g.heard writes number
+      × (g.chosen ≡ Some (slot_with g.slot.pair b) → x ≡ g.at_hand.value)

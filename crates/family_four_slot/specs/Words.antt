@@ -1,16 +1,17 @@
 -- What contracts see of a family of four-slot cells (this project's own).
-use Rattle.std.specs.Prelude.{◌≡◌, ◌≢◌, ℕ, ◌*◌, ◌<◌, ◌≤◌, nat_eq, cond, List, [], ◌++◌}
+use Rattle.std.specs.Prelude.{◌≡◌, ◌≢◌, ℕ, ◌*◌, ◌<◌, ◌≤◌, nat_eq, cond, Option, None, Some, List, [], ◌++◌}
 use Rattle.std.specs.Prelude.{length, slice_index_or, slice_index}
+use Rattle.four_slot_core.specs.declared.state.Slot.{Slot}
 use Rattle.four_slot_core.specs.declared.state.Stage.TheVariants as writer
 use Rattle.four_slot_core.specs.declared.state.ReaderStage.TheVariants as reader
-use Rattle.four_slot_core.specs.Events.{bit_number}
+use Rattle.four_slot_core.specs.Events.{bit_number, slot_number}
 use Rattle.cell_contract.specs.Running.{last_or, held_slots}
 use Rattle.cell_contract.specs.Sights.{writer_or, reader_or}
 use Rattle.cell_four_slot.specs.declared.notes.WriterNotes.{WriterNotes}
 use Rattle.cell_four_slot.specs.declared.notes.ReaderNotes.{ReaderNotes}
 use Rattle.cell_contract.specs.declared.sight.Sight.TheVariants.{Spent, Writer, Reader}
 use Rattle.cell_four_slot.specs.Steps.{FourSlotSight, first_writer, first_reader, bit_words}
-use Rattle.cell_four_slot.specs.Steps.{slot_of_choice, word_said, receipt_for}
+use Rattle.cell_four_slot.specs.Steps.{slot_of_choice, receipt_for}
 use Rattle.cell_contract.specs.Accesses.{WriteAccesses, ReadAccesses}
 use Rattle.family_four_slot.specs.declared.family.Shown.{Shown}
 use Rattle.family_four_slot.specs.declared.family.Stored.{Stored}
@@ -49,6 +50,11 @@ module _ {T : Type 0} where
   HasSlots k g cs = (before : List (ℕ × T)) × (behind : List (ℕ × T))
       × (cs ≡ before ++ (shift (slot_at k) (slot_of_choice g.chosen g.at_hand.value) ++ behind))
 
+-- the number of the slot of the last answer, 4 before the first
+abbrev pub number_chosen : Option Slot → ℕ
+number_chosen None = 4
+number_chosen (Some k) = slot_number k
+
 -- what was stored last in the register to a process
 abbrev pub none_shown : Shown
 none_shown = record { bits = []; latest = 0 }
@@ -68,14 +74,15 @@ module _ {T : Type 0} (o : T) where
     pub bits : bit_words notes.remembered ≡ remembered
     pub shown : latest ≡ bit_number notes.latest
 
-  -- and one that it reads, of which the seat remembers what `reading` has
-  pub record IsColumn (k : ℕ) (part : FourSlotSight T) (said : ℕ) (cs : List (ℕ × T)) : Type 0 where
+  -- and one that it reads: the seat has the slot of the last answer, and remembers its number
+  pub record IsColumn (k : ℕ) (part : FourSlotSight T) (slot : ℕ) (cs : List (ℕ × T)) : Type 0 where
     pub notes : ReaderNotes T
     pub is : part ≡ Reader notes
     pub idle : notes.stage ≡ reader.R5
     pub opened : notes.opening.value ≡ o
     pub slots : HasSlots k notes cs
-    pub stored : said ≡ word_said notes.chosen
+    pub chosen : slot ≡ number_chosen notes.chosen
+    pub last : notes.at_hand.value ≡ last_or o notes.answers
 
   -- a process of n between two calls. Of cells that it doesn't write it tells nothing
   pub record IsAtRest (n : ℕ) (v : Process (FourSlotSight T)) (kept : Stored) (cs : List (ℕ × T)) : Type 0 where
@@ -84,8 +91,8 @@ module _ {T : Type 0} (o : T) where
     pub held : v.held ≡ held_slots cs
     pub idle : (k : ℕ) → Idle (of_cell Spent k v.parts)
     pub quiet : (k : ℕ) → writer_of n k ≢ v.who → receipt_for (of_cell Spent k v.parts) ≡ Spent
-    pub long : (n ≤ length kept.shown) × (n ≤ length kept.said)
+    pub long : (n ≤ length kept.shown) × (n ≤ length kept.reads)
     pub row : (j : ℕ) → j < n → j ≢ v.who →
         IsRow (of_cell Spent (place n v.who j) v.parts) (shown_to kept j).bits (shown_to kept j).latest
     pub column : (j : ℕ) → j < n → j ≢ v.who →
-        IsColumn (place n j v.who) (of_cell Spent (place n j v.who) v.parts) (slice_index kept.said j) cs
+        IsColumn (place n j v.who) (of_cell Spent (place n j v.who) v.parts) (slice_index kept.reads j) cs

@@ -1,5 +1,5 @@
 //! The family of four-slot cells, and its calls.
-ghost use Rattle.std.specs.Prelude.{◌≡◌, ◌≢◌, ℕ, ◌<◌, List, [], ◌∷◌, IfOk, vec_len, vec_capacity};
+ghost use Rattle.std.specs.Prelude.{◌≡◌, ◌≢◌, ◌||◌, ℕ, ◌<◌, List, [], ◌∷◌, IfOk, vec_len, vec_capacity};
 ghost use Rattle.history_core.specs.Schedules.{positions};
 ghost use Rattle.cell_contract.specs.Running.{last_or};
 ghost use Rattle.cell_contract.specs.Ends.{Each, EachTwo, IsSchedule, IsAtomicCell};
@@ -7,6 +7,7 @@ ghost use Rattle.cell_contract.specs.Plans.{doings, MayRead, MayWrite};
 ghost use Rattle.cell_contract.specs.Rows.{IsReadFrom, IsWriteTo};
 ghost use Rattle.family_table.specs.Left.{AreSoFarWith};
 ghost use Rattle.family_table.specs.Places.{place};
+ghost use Rattle.family_four_slot.specs.Access.{shown_by};
 ghost use Rattle.family_four_slot.specs.FourSlots.{first_view};
 ghost use Rattle.family_table.specs.declared.notes.View.TheVariants.{Has};
 ghost use Rattle.family_table.specs.Seated.{known_by};
@@ -45,12 +46,12 @@ pub struct Shown {
     latest: u64,
 }
 
-/// What a process stored last in the words of its registers, by the other process: in those that it writes, and in
-/// those that it reads the pair in `reading`, 2 where it has stored none.
+/// What a process remembers of its registers, by the other process: of those that it writes what it stored last, and of
+/// those that it reads the number of the slot of its last answer, 4 before the first.
 #[derive(Clone, Copy)]
 pub struct Stored {
     shown: [Shown; 16],
-    said: [u64; 16],
+    reads: [usize; 16],
 }
 
 /// The right to write and to read as one of the processes. Of each register from which it has read it holds
@@ -85,7 +86,7 @@ fn seats_of<T: Planned>(
                     bits: [0, 0],
                     latest: 0,
                 }; 16],
-                said: [2; 16],
+                reads: [4; 16],
             },
             spare: first,
         });
@@ -122,13 +123,15 @@ impl<T: Planned> FourSlotFamily<T> {
         table.publish::<Brand>(&mut seat.seat, cell, pair, index, &mut shown.latest);
     }
 
-    /// A read of the register of process `from`, which is this cell.
+    /// A read of the register of process `from`, which is this cell. A record that is the last answer again is shown
+    /// only if `again` says so: else its slot isn't visited.
     #[inline(always)]
     fn read_at<L: Sees<T>>(
         &self,
         seat: &mut FourSlotSeat<T>,
         cell: usize,
         from: usize,
+        again: bool,
         seen: &mut L,
     )
         requires own { IsSeat self.now seat.old }
@@ -138,16 +141,24 @@ impl<T: Planned> FourSlotFamily<T> {
             (T.plan (opening_of self.now) 3 (processes_of self.now) (limit_of self.now) (number_of seat.old)) 3 from
             (doings (times_of seat.old) (writes_of seat.old) (reads_of seat.old)) }
         ensures read { IsReadFrom (IsSeat self.now) number_of clock_of times_of writes_of reads_of 3
-            (opening_of self.now) T.fits T.rises (λ _. L.sees) from
+            (opening_of self.now) T.fits T.rises (shown_by again L.sees) from
             (seat.old, seen.old) (seat.new, seen.new) }
         ensures so_far { SeatShowsAll T.plan self.now seat.new }
     {
         let table = &self.table;
-        let latest = table.announce(&mut seat.seat, cell, &mut seat.stored.said[from]);
-        let index = table.take::<Brand>(&mut seat.seat, cell, latest);
-        let slot = slot_of(latest, index);
-        table.show(&mut seat.seat, cell, slot, seen);
+        let last = seat.stored.reads[from];
+        let (slot, moved) = table.newest::<Brand>(&mut seat.seat, cell, last);
+        seat.stored.reads[from] = slot;
+        table.show_where(&mut seat.seat, cell, slot, shows(again, moved), seen);
     }
+}
+
+/// Whether an answer is shown: always where it is to be shown again, and else where its slot isn't that of the last.
+#[inline(always)]
+fn shows(again: bool, moved: bool) -> bool
+    ensures { result ≡ (again || moved) }
+{
+    again || moved
 }
 
 impl<T: Planned> Family<T> for FourSlotFamily<T> {
@@ -219,7 +230,8 @@ impl<T: Planned> Family<T> for FourSlotFamily<T> {
 
     #[inline]
     fn read_from<L: Sees<T>>(&self, seat: &mut FourSlotSeat<T>, from: usize, seen: &mut L) {
-        self.read_at(seat, place(seat.processes, from, seat.who), from, seen);
+        let cell = place(seat.processes, from, seat.who);
+        self.read_at(seat, cell, from, true, seen);
     }
 
     #[inline(always)]
@@ -227,10 +239,10 @@ impl<T: Planned> Family<T> for FourSlotFamily<T> {
         let processes = seat.processes;
         let who = seat.who;
         for from in 0..who {
-            self.read_at(seat, place(processes, from, who), from, seen);
+            self.read_at(seat, place(processes, from, who), from, false, seen);
         }
         for from in who + 1..processes {
-            self.read_at(seat, place(processes, from, who), from, seen);
+            self.read_at(seat, place(processes, from, who), from, false, seen);
         }
     }
 

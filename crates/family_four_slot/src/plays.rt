@@ -1,6 +1,6 @@
 //! What each step tells.
 ghost use Rattle.std.specs.Prelude.{List, []};
-ghost use Rattle.family_four_slot.specs.Steps.{begins, stores_on, finishes, asks_on, says, takes};
+ghost use Rattle.family_four_slot.specs.Steps.{begins, stores_on, finishes, asks, says, takes, takes_on};
 
 use crate::notes::FamilySight;
 use atomic_table::Play;
@@ -39,7 +39,7 @@ impl<T> Play<T, FamilySight<T>> for Finishes {
 pub(crate) struct Asks;
 
 impl<T> Play<T, FamilySight<T>> for Asks {
-    ghost then = { asks_on };
+    ghost then = { asks };
 }
 
 pub(crate) struct Says;
@@ -52,4 +52,10 @@ pub(crate) struct Takes;
 
 impl<T: Lawful> Play<T, FamilySight<T>> for Takes {
     ghost then = { takes T.fits T.rises };
+}
+
+pub(crate) struct TakesOn;
+
+impl<T: Lawful> Play<T, FamilySight<T>> for TakesOn {
+    ghost then = { takes_on T.fits T.rises };
 }

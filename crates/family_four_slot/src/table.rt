@@ -1,6 +1,7 @@
 //! The table of a family of four-slot cells and every step of the mechanism on it. No other module of this crate steps
 //! on the table but by what stands here, and by what is so of any family's table.
-ghost use Rattle.std.specs.Prelude.{◌≡◌, ◌≢◌, ℕ, ◌+◌, ◌*◌, ◌-◌, ◌<◌, ◌≤◌, List, [], ◌∷◌, ◌++◌, length, IfOk};
+ghost use Rattle.std.specs.Prelude.{◌≡◌, ◌≢◌, true, false, ℕ, ◌+◌, ◌*◌, ◌-◌, ◌<◌, ◌≤◌, List, [], ◌∷◌, ◌++◌};
+ghost use Rattle.std.specs.Prelude.{length, IfOk};
 ghost use mathlib.Core.Option.{none};
 ghost use Rattle.std.specs.declared.snapshot.Snapshot.{Snapshot};
 ghost use Rattle.atomic_table.specs.Table.{step};
@@ -17,16 +18,18 @@ ghost use Rattle.family_table.specs.declared.notes.Process.{Process};
 ghost use Rattle.family_table.specs.Layouts.{shift};
 ghost use Rattle.family_four_slot.specs.Places.{four_slots, slot_at};
 ghost use Rattle.family_four_slot.specs.FourSlots.{first_view, Idle};
-ghost use Rattle.family_four_slot.specs.Plans.{plan_of, MayAnnounce, MayBegin, MayFinish, MayPublish};
+ghost use Rattle.family_four_slot.specs.Access.{HasLooked};
+ghost use Rattle.family_four_slot.specs.Plans.{plan_of, MayAsk, MayBegin, MayFinish, MayGet, MayLook, MayPublish};
 ghost use Rattle.family_four_slot.specs.Plans.{MaySay, MayTake, ShowsAll};
-ghost use Rattle.family_four_slot.specs.Steps.{begins, stores_on, publishes, finishes, asks_on, announces, says, takes};
+ghost use Rattle.family_four_slot.specs.Steps.{begins, stores_on, publishes, finishes, asks, says, takes, takes_on};
 ghost use Rattle.family_four_slot.specs.Tables.{HasWriter, HasReader, IsEnded};
+ghost use Rattle.family_four_slot.specs.Words.{number_chosen};
 ghost use Rattle.family_table.specs.Family.{of_cell};
 
 use crate::mechanism::FourSlotMechanism;
-use crate::plays::{Asks, Begins, Finishes, Item, Says, Stores, Takes};
+use crate::plays::{Asks, Begins, Finishes, Item, Says, Stores, Takes, TakesOn};
 use cell_contract::{Planned, Sees};
-use cell_four_slot::FourSlotSight;
+use cell_four_slot::{FourSlotSight, slot_of};
 use family_table::notes::Opening;
 use family_table::plays::Showing;
 use family_table::table::Rows;
@@ -194,42 +197,53 @@ impl<T: Planned> FamilyTable<T> {
             .store::<Showing<Finishes, FourSlotMechanism, K>>(&mut seat.inner, base(cell), pair);
     }
 
-    /// R1 and R2. R2's store is left out where `reading` has the pair already. `said` is what it has.
+    /// R1 to R3: takes the slot that has the answer, and tells its number, and whether it isn't `last`, that of the
+    /// last answer: else the record is the same. R2's store is left out where `reading` has the pair already.
     #[inline]
-    pub(super) fn announce(&self, seat: &mut FamilySeat<T>, cell: usize, said: &mut u64) -> u64
+    pub(super) fn newest<K: Opening<T>>(
+        &self,
+        seat: &mut FamilySeat<T>,
+        cell: usize,
+        last: usize,
+    ) -> (usize, bool)
+        requires opening { (K.first ≡ self.now.rows.inner.shared.key.first ∷ [])
+            × (K.processes ≡ self.now.rows.inner.shared.key.processes)
+            × (K.limit ≡ self.now.rows.inner.shared.key.limit) }
         requires own { seat.old.inner.table_id ≡ self.now.rows.inner.shared.table_id }
         requires place { cell < (four_slots self.now.rows.inner.shared.key.processes).cells }
         requires idle { (v : Process (FourSlotSight T)) × (g : ReaderNotes T) × (before : List (ℕ × T))
             × (behind : List (ℕ × T)) × HasReader seat.old.inner.me cell v g
             × (seat.old.inner.me.1
             ≡ before ++ (shift (slot_at cell) (slot_of_choice g.chosen g.at_hand.value) ++ behind)) × (g.stage ≡ R5)
-            × (said.old ≡ word_said g.chosen)
-            × MayAnnounce (plan_of T.plan self.now.rows.inner.shared.key) cell v g }
+            × (last ≡ number_chosen g.chosen)
+            × MayLook (plan_of T.plan self.now.rows.inner.shared.key) cell v g }
         ensures own { seat.new.inner.table_id ≡ seat.old.inner.table_id }
-        ensures announced { announces cell seat.old.inner.me result seat.new.inner.me }
-        ensures remembered { said.new ≡ result }
+        ensures looked { (v : Process (FourSlotSight T)) (g : ReaderNotes T) → HasReader seat.old.inner.me cell v g →
+            HasLooked T.fits T.rises cell v g seat.old.inner.me seat.new.inner.me result.0 result.1 }
+        ensures moved { result.1 ≡ true → result.0 ≢ last }
+        ensures shown { ShowsAll T.plan self.now.rows.inner.shared.key seat.new.inner.me }
     {
         let pair = self.ask(seat, cell);
-        if pair == *said {
-            return pair;
+        if pair as usize == last / 2 {
+            let index = self.take_on::<K>(seat, cell, pair);
+            let slot = slot_of(pair, index);
+            return (slot, slot != last);
         }
         self.say(seat, cell, pair);
-        *said = pair;
-        pair
+        let index = self.take::<K>(seat, cell, pair);
+        (slot_of(pair, index), true)
     }
 
-    /// R1: loads `latest`. This is R2 too where `reading` has the pair already.
+    /// R1: loads `latest`.
     #[inline]
     fn ask(&self, seat: &mut FamilySeat<T>, cell: usize) -> u64
         requires own { seat.old.inner.table_id ≡ self.now.rows.inner.shared.table_id }
         requires place { cell < (four_slots self.now.rows.inner.shared.key.processes).cells }
-        requires idle { (v : Process (FourSlotSight T)) × (g : ReaderNotes T) × (before : List (ℕ × T))
-            × (behind : List (ℕ × T)) × HasReader seat.old.inner.me cell v g
-            × (seat.old.inner.me.1
-            ≡ before ++ (shift (slot_at cell) (slot_of_choice g.chosen g.at_hand.value) ++ behind))
-            × (g.stage ≡ R5) × MayAnnounce (plan_of T.plan self.now.rows.inner.shared.key) cell v g }
+        requires idle { (v : Process (FourSlotSight T)) × (g : ReaderNotes T)
+            × HasReader seat.old.inner.me cell v g × (g.stage ≡ R5)
+            × MayAsk (plan_of T.plan self.now.rows.inner.shared.key) cell v g }
         ensures own { seat.new.inner.table_id ≡ seat.old.inner.table_id }
-        ensures asked { asks_on (step self.now.rows.inner.shared.table_id.slots (16 * cell + 8) 0 0 none)
+        ensures asked { asks (step self.now.rows.inner.shared.table_id.slots (16 * cell + 8) 0 0 none)
             seat.old.inner.me result seat.new.inner.me }
     {
         self.rows
@@ -258,14 +272,39 @@ impl<T: Planned> FamilyTable<T> {
             .store::<Says>(&mut seat.inner, base(cell) + 8, pair);
     }
 
+    /// R2 and R3, where `reading` has the pair already: loads the pair's word, gives the slot of the last answer back,
+    /// and takes the slot that the word names.
+    #[inline]
+    fn take_on<K: Opening<T>>(&self, seat: &mut FamilySeat<T>, cell: usize, pair: u64) -> u64
+        requires opening { (K.first ≡ self.now.rows.inner.shared.key.first ∷ [])
+            × (K.processes ≡ self.now.rows.inner.shared.key.processes)
+            × (K.limit ≡ self.now.rows.inner.shared.key.limit) }
+        requires own { seat.old.inner.table_id ≡ self.now.rows.inner.shared.table_id }
+        requires place { cell < (four_slots self.now.rows.inner.shared.key.processes).cells }
+        requires asked { (v : Process (FourSlotSight T)) × (g : ReaderNotes T) × (before : List (ℕ × T))
+            × (behind : List (ℕ × T)) × HasReader seat.old.inner.me cell v g
+            × (seat.old.inner.me.1
+            ≡ before ++ (shift (slot_at cell) (slot_of_choice g.chosen g.at_hand.value) ++ behind)) × (g.stage ≡ R1)
+            × (pair ≡ bit_number g.slot.pair) × (pair ≡ word_said g.chosen)
+            × MayGet (plan_of T.plan self.now.rows.inner.shared.key) cell v g }
+        ensures own { seat.new.inner.table_id ≡ seat.old.inner.table_id }
+        ensures taken { takes_on T.fits T.rises
+            (step self.now.rows.inner.shared.table_id.slots (16 * cell + 8 + (2 + pair)) 0 0 none) seat.old.inner.me
+            result seat.new.inner.me }
+        ensures shown { ShowsAll T.plan self.now.rows.inner.shared.key seat.new.inner.me }
+    {
+        self.rows
+            .inner
+            .shared
+            .load::<Showing<TakesOn, FourSlotMechanism, K>>(
+                &mut seat.inner,
+                base(cell) + (2 + pair as usize),
+            )
+    }
+
     /// R3: loads the pair's word, and takes the slot that it names.
     #[inline]
-    pub(super) fn take<K: Opening<T>>(
-        &self,
-        seat: &mut FamilySeat<T>,
-        cell: usize,
-        pair: u64,
-    ) -> u64
+    fn take<K: Opening<T>>(&self, seat: &mut FamilySeat<T>, cell: usize, pair: u64) -> u64
         requires opening { (K.first ≡ self.now.rows.inner.shared.key.first ∷ [])
             × (K.processes ≡ self.now.rows.inner.shared.key.processes)
             × (K.limit ≡ self.now.rows.inner.shared.key.limit) }
@@ -304,13 +343,7 @@ impl<T: Planned> FamilyTable<T> {
 
     /// R4 and R5: shows the record where it lies.
     #[inline]
-    pub(super) fn show<L: Sees<T>>(
-        &self,
-        seat: &mut FamilySeat<T>,
-        cell: usize,
-        slot: usize,
-        seen: &mut L,
-    )
+    fn show<L: Sees<T>>(&self, seat: &mut FamilySeat<T>, cell: usize, slot: usize, seen: &mut L)
         requires own { seat.old.inner.table_id ≡ self.now.rows.inner.shared.table_id }
         requires place { (cell < (four_slots self.now.rows.inner.shared.key.processes).cells) × (slot < 4) }
         requires held { (x : T) × (cs : List (ℕ × T)) × (seat.old.inner.me.1 ≡ (slot_at cell slot, x) ∷ cs) }
@@ -320,5 +353,29 @@ impl<T: Planned> FamilyTable<T> {
             L.sees seen.old item seen.new }
     {
         self.rows.show(seat, slot_place(cell, slot), seen);
+    }
+
+    /// The same where the record is to be shown; else its slot isn't visited.
+    #[inline]
+    pub(super) fn show_where<L: Sees<T>>(
+        &self,
+        seat: &mut FamilySeat<T>,
+        cell: usize,
+        slot: usize,
+        shows: bool,
+        seen: &mut L,
+    )
+        requires own { seat.old.inner.table_id ≡ self.now.rows.inner.shared.table_id }
+        requires place { (cell < (four_slots self.now.rows.inner.shared.key.processes).cells) × (slot < 4) }
+        requires held { (x : T) × (cs : List (ℕ × T)) × (seat.old.inner.me.1 ≡ (slot_at cell slot, x) ∷ cs) }
+        ensures own { seat.new.inner.table_id ≡ seat.old.inner.table_id }
+        ensures same { seat.new.inner.me ≡ seat.old.inner.me }
+        ensures shown { shows ≡ true → (item : T) (cs : List (ℕ × T)) →
+            seat.old.inner.me.1 ≡ (slot_at cell slot, item) ∷ cs → L.sees seen.old item seen.new }
+        ensures unshown { shows ≡ false → seen.new ≡ seen.old }
+    {
+        if shows {
+            self.show(seat, cell, slot, seen);
+        }
     }
 }

@@ -4,7 +4,6 @@ use Rattle.cell_contract.specs.Rows.OneByOne.{no_call}
 use Rattle.cell_contract.proofs.Rows.{one_after, one_before}
 use Rattle.family_four_slot.specs.Seated.{opening_of, processes_of, limit_of}
 use Rattle.family_four_slot.proofs.Columns.{Column, Read, column_cell, column_may_after, column_may_before, column_seat}
-use Rattle.family_four_slot.proofs.Columns.{seen_new}
 use Rattle.family_four_slot.proofs.Rows.{row_room}
 use Rattle.family_four_slot.proofs.family.FourSlotFamilyFamily.read_all_from.Goals as goal
 
@@ -16,9 +15,7 @@ loop-from-preserved g c =
     let l = c.loop-from in (
       one_before (Read c.args.self.now g.T.Lawful.fits g.T.Lawful.rises g.L.Sees.sees) c.args.seat.now.who
           (c.args.seat.now, c.args.seen.now) (l.seat, l.seen)
-          (c.read_at.new.seat, c.read_at.new.seen) l.from l.invariant.0 c.loop-from-test.true
-          (seen_new c.args.self.now g.T.Lawful.fits g.T.Lawful.rises g.L.Sees.sees l.from (l.seat, l.seen)
-          (c.read_at.new.seat, c.read_at.new.seen) c.read_at.ensures.read),
+          (c.read_at.new.seat, c.read_at.new.seen) l.from l.invariant.0 c.loop-from-test.true c.read_at.ensures.read,
       λ _. c.read_at.ensures.so_far,
     )
 
@@ -38,9 +35,7 @@ loop-from-2-preserved g c =
     let call = c.read_at-in-loop-from-2 in (
       one_after (Read c.args.self.now g.T.Lawful.fits g.T.Lawful.rises g.L.Sees.sees) c.args.seat.now.who
           (c.args.seat.now, c.args.seen.now) (l.seat, l.seen) (call.new.seat, call.new.seen) l.from l.invariant.0
-          (omega (arith, l.auto.from))
-          (seen_new c.args.self.now g.T.Lawful.fits g.T.Lawful.rises g.L.Sees.sees l.from (l.seat, l.seen)
-          (call.new.seat, call.new.seen) call.ensures.read),
+          (omega (arith, l.auto.from)) call.ensures.read,
       λ _. call.ensures.so_far,
     )
 

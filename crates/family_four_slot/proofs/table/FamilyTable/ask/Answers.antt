@@ -1,6 +1,6 @@
--- The load of `latest` begins a read, and says the pair where `reading` has it.
+-- The load of `latest` begins a read.
 use Rattle.std.proofs.Common.{arith}
-use Rattle.family_four_slot.proofs.Merged.{asks_on_ok}
+use Rattle.family_four_slot.proofs.Told.{asks_ok}
 use Rattle.family_four_slot.proofs.table.FamilyTable.ask.Goals as goal
 
 pub load-requires : goal.load-requires
@@ -11,6 +11,6 @@ load-requires g c =
     let b = c.base.ensures in (
       c.requires.own,
       omega arith,
-      asks_on_ok g.T.Lawful.fits g.T.Lawful.rises _ _ _ _ _ _ c.args.cell _ t.0 t.1 t.2 t.3 (omega arith) place
-          t.4.process.has t.4.process.one t.4.notes t.5 t.4.process.held t.6 t.7,
+      asks_ok g.T.Lawful.fits g.T.Lawful.rises _ _ _ _ _ _ c.args.cell _ t.0 t.1 (omega arith) place
+          t.2.process.has t.2.process.one t.2.notes t.2.process.held t.3 t.4,
     )
