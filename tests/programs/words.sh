@@ -302,8 +302,8 @@ cat >"$room/stale.jsonl" <<'LOG'
 {"who":7,"kind":"write","begin":20,"end":21,"record":9}
 LOG
 cat >"$room/wanted" <<'DOCUMENT'
-{"kind":"log","opening":[0,0,0],"limit":1,"ops":[
- {"who":0,"kind":"write","begin":0,"end":4,"record":[1,1,1]},
+{"kind":"log","opening":[0,0,0],"limit":1,"lines":[2,3],"ops":[
+ {"who":0,"kind":"write","begin":0,"end":4,"record":[2,2,2]},
  {"who":1,"kind":"read","begin":6,"end":8,"record":[0,0,0]}]}
 DOCUMENT
 ends_fsr 1 out order --small "$room/stale.jsonl"
@@ -317,7 +317,7 @@ if ! has_program picture; then
 else
     "$built/picture/out/picture" <"$room/small.json" >"$room/out" 2>"$room/err"
     status=$?
-    if [ "$status" = 1 ] && grep -q 'unlawful stale: operation 0' "$room/out"; then
+    if [ "$status" = 1 ] && grep -q 'unlawful stale: operation 2' "$room/out" && grep -q '>read 3<' "$room/out"; then
         pass "$title"
     else
         fail "$title" "it ended with status $status: $(head -c 200 "$room/err")"
@@ -416,6 +416,36 @@ if [ -c /dev/full ]; then
     ends_picture "picture into a full output" examples/lawful.json /dev/full 5 "picture: write failed"
 fi
 
+# The program for logs whose records don't repeat answers each example as `fsr order` does, but refuses the header of another log.
+answers_once() {
+    title="fsr_once and fsr order on the examples"
+    if ! has_program fsr || ! has_program fsr_once; then
+        fail "$title" "fsr or fsr_once wasn't built"
+        return
+    fi
+    different='' refused=0
+    for document in examples/*.json examples/*.jsonl; do
+        if head -n 1 "$document" | grep -q '"repeats":true'; then
+            refused=$((refused + 1))
+            printf 'fsr: line 1: law of repeats\n3\n' >"$room/wanted"
+        else
+            { "$built/fsr/out/fsr" order <"$document" 2>&1; echo $?; } >"$room/wanted"
+        fi
+        { "$built/fsr_once/out/fsr_once" <"$document" 2>&1; echo $?; } >"$room/out"
+        cmp -s "$room/out" "$room/wanted" || different="$different $document"
+    done
+    if [ -z "$different" ] && [ "$refused" -gt 1 ]; then pass "$title"; else fail "$title" "$refused repeat, and it differs on:$different"; fi
+}
+
+answers_once
+make_stub fsr <<'STUB'
+exec crates/fsr/out/fsr "$@"
+STUB
+make_stub fsr_once <<'STUB'
+exec crates/fsr/out/fsr order
+STUB
+catches "a log that repeats, answered" "it differs on: examples/lines_cas.jsonl" over_stubs answers_once
+
 # Where a program can't be built the script ends with a status of its own, and says so on standard error alone.
 mkdir -p "$room/bare/docs/dev" "$room/bare/docs/man" "$room/bare/crates" && cp -r fsr picture soak crates.txt build "$room/bare/" \
     && cp docs/dev/TESTING.md "$room/bare/docs/dev/" && cp docs/man/fsr.txt "$room/bare/docs/man/"
@@ -458,7 +488,7 @@ make_small() {
     mkdir -p "$room/bare/crates/$1/out" && printf '#!/bin/sh\ncat >"$READ"\n%s\n' "$2" >"$room/bare/crates/$1/out/$1" && chmod +x "$room/bare/crates/$1/out/$1"
 }
 make_small fsr_check 'echo "fsr: document: not JSON" >&2; exit 3'
-make_small fsr_order 'echo "order $*"'
+make_small fsr_once 'echo "once $*"'
 make_small fsr_coherent 'echo "coherent $*"'
 make_small fsr_play 'echo "play $*"; exit 1'
 make_small fsr_watch 'echo "watch $*"'
@@ -478,6 +508,26 @@ answers_small() {
     fi
 }
 
+# A log whose records don't repeat needs the least. Another one is known by its first line, however the key is written there; of what
+# isn't read from the beginning of a file no line is looked at.
+answers_small 0 "once " "$room/stale.jsonl" order "$room/stale.jsonl"
+answers_small 0 "once --strict" "$room/stale.jsonl" order --strict
+answers_small 0 "once " examples/lawful.json order
+sed 's/"repeats"/"rep\\u0065ats"/' examples/lines_cas.jsonl >"$room/spelt.jsonl"
+gives_unbuilt 70 '' 'build: ' order examples/lines_cas.jsonl
+gives_unbuilt 70 '' 'build: ' order "$room/spelt.jsonl"
+gives_unbuilt 70 '' 'build: ' order
+title="./fsr order behind the first line of a file where it isn't built"
+{ echo && cat examples/lines_cas.jsonl; } >"$room/behind.jsonl"
+{ read -r empty && PATH=/usr/bin:/bin "$room/bare/fsr" order >"$room/out" 2>"$room/err"; } <"$room/behind.jsonl"
+status=$?
+if [ "$status" = 70 ]; then pass "$title"; else fail "$title" "it ended with status $status"; fi
+sed -i.kept 's/^may_repeat() {$/&\n    return 1/' "$room/bare/fsr"
+catches "a first line that isn't looked at" "it ended with status 0" gives_unbuilt 70 '' 'build: ' order examples/lines_cas.jsonl
+mv "$room/bare/fsr.kept" "$room/bare/fsr"
+
+# A program that answers all logs is taken where it is built.
+make_small fsr_order 'echo "order $*"'
 answers_small 0 "order --order" "$room/stale.jsonl" order --order "$room/stale.jsonl"
 answers_small 0 "order --small" "$room/stale.jsonl" order "$room/stale.jsonl" --small
 answers_small 0 "order --strict" "$room/stale.jsonl" order "$room/stale.jsonl" --strict

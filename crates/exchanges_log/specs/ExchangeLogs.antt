@@ -15,16 +15,8 @@ use Rattle.read_line.specs.Numberings.{AreDistinct}
 use Rattle.lines_log.specs.Logs.{same_key, text_of}
 use Rattle.read_exchange.specs.Exchanges.{done, entry_of, ExchangeEntry, operation, refused, SaidExchange}
 use Rattle.read_exchange.specs.Exchanges.{sets, gets, swaps, misses, finds, tries}
-use Rattle.read_exchange.specs.Headers.{exchange_head_of, says_repeats}
+use Rattle.read_exchange.specs.Headers.{exchange_head_of}
 use Rattle.exchanges_log.specs.declared.exchanges_log.ExchangesLog.{ExchangesLog}
-
--- the first of these lines is the header of a log whose records repeat
-abbrev pub first_repeats : List (List ℕ) → Bool
-first_repeats [] = false
-first_repeats (first ∷ lines) = says_repeats first
-
-abbrev pub has_repeats : List ℕ → Bool
-has_repeats bytes = first_repeats (lines_of bytes)
 
 abbrev pub key_said : Result ExchangeEntry DocError → Option (List ℕ)
 key_said (Ok (operation o)) = o.key

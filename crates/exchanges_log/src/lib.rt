@@ -11,5 +11,5 @@ mod number;
 mod reader;
 
 pub use exchanges_log::ExchangesLog;
-pub use log::{has_repeats, read_exchanges};
+pub use log::read_exchanges;
 pub use number::number_op;

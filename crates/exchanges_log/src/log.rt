@@ -2,7 +2,7 @@
 ghost use Rattle.std.specs.Prelude.{◌≡◌, ◌<◌, ◌+◌, ◌^◌, ℕ, List, [], length, option_map, string_bytes};
 ghost use Rattle.std.specs.Prelude.{IfErr, IfOk, OnOk};
 ghost use Rattle.exchanges_log.specs.ExchangeFaults.{IsExchangesBodyFault, IsExchangesFault};
-ghost use Rattle.exchanges_log.specs.ExchangeLogs.{first_key, has_repeats, IsExchangesLog};
+ghost use Rattle.exchanges_log.specs.ExchangeLogs.{first_key, IsExchangesLog};
 ghost use Rattle.exchanges_log.specs.inner.ExchangeReadings.{AreExchangesFinished, AreExchangesRead, IsBodyRead};
 ghost use Rattle.exchanges_log.specs.inner.ExchangeReadings.{key_of};
 ghost use Rattle.read_document.specs.Splits.{lines_of};
@@ -18,16 +18,6 @@ use std::alloc::{AllocError, Global};
 
 /// The line of the header.
 const HEADER: usize = 1;
-
-/// Whether the first line of a log is the header of one whose records repeat.
-pub fn has_repeats(alloc: Global, bytes: &[u8]) -> Result<bool, AllocError>
-    ensures { IfOk result (λ has. has ≡ has_repeats bytes.now) }
-{
-    match split_line(bytes) {
-        Some((first, _)) => read_exchange::has_repeats(alloc, first),
-        None => Ok(false),
-    }
-}
 
 /// The log that the bytes stand for, whose records repeat, or the first line at fault.
 pub fn read_exchanges(alloc: Global, bytes: &[u8]) -> Result<ExchangesLog, Fault>

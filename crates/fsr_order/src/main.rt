@@ -2,7 +2,8 @@
 //! takes one of the words of `fsr order`.
 #![tactic(auto)]
 
-use fsr_order_answers::{run, show_of};
+use fsr_order_answers::run;
+use fsr_order_input::show_of;
 use program_runs::{FSR, words_of};
 use program_streams::{Exit, Over, tell};
 use std::process::ExitCode;

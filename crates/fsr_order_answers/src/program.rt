@@ -4,8 +4,8 @@ ghost use Rattle.read_document.specs.Kinds.{are_lines};
 ghost use Rattle.fsr_order_answers.specs.Order.{IsOrderAnswer};
 ghost use Rattle.program_streams.specs.Stream.{HasRoom};
 
-use crate::input::take_log;
 use crate::logs::order;
+use fsr_order_input::take_log;
 use program_runs::{Answer, Command, FSR, Fault, Program, Show, run_command};
 use program_streams::{Sink, Source};
 use std::alloc::Global;

@@ -1,31 +1,12 @@
 -- The header of a log whose records repeat (this project's own).
-use Rattle.std.specs.Prelude.{ℕ, List, codes, Bool, false, ◌&&◌, is_none, unwrap_or, Option, option_and_then}
-use Rattle.std.specs.Prelude.{Result, Ok, Err}
-use Rattle.serde_json.specs.Data.{Data}
-use Rattle.serde_json.specs.Find.{as_bool, get}
+use Rattle.std.specs.Prelude.{ℕ, List, is_none, Result, Ok}
 use Rattle.read_document.specs.declared.refusal.DocError.{DocError}
 use Rattle.read_document.specs.declared.refusal.DocError.TheVariants.{Law}
 use Rattle.read_document.specs.declared.key.Key.TheVariants.{Limit}
-use Rattle.read_document.specs.Document.{is_kind, value_of}
 use Rattle.read_document.specs.Refusals.{◌>>=◌, must}
 use Rattle.read_line.specs.Lines.{head_of}
 
--- only the value `true` means it
-abbrev pub is_true : Option Data → Bool
-is_true found = unwrap_or (option_and_then as_bool found) false
-
-abbrev pub repeats_in : Data → Bool
-repeats_in d = is_kind (codes "lines") d && is_true (get (codes "repeats") d)
-
-abbrev pub repeats_said : Result Data DocError → Bool
-repeats_said (Ok d) = repeats_in d
-repeats_said (Err why) = false
-
--- the line is the header of a log whose records repeat
-abbrev pub says_repeats : List ℕ → Bool
-says_repeats line = repeats_said (value_of line)
-
--- the opening that such a header has, or its first refusal: it is a header without a limit
+-- the opening that a header of such a log has, or its first refusal: it is a header without a limit
 unfoldable pub exchange_head_of : List ℕ → Result (List ℕ) DocError
 exchange_head_of bytes = do
   head ← head_of bytes

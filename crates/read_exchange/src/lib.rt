@@ -9,6 +9,6 @@ pub mod laws;
 mod line;
 mod operation;
 
-pub use header::{has_repeats, read_exchange_header};
+pub use header::read_exchange_header;
 pub use line::{ExchangeLine, ExchangeOp, TextExchange};
 pub use operation::{exchange_in, read_exchange};

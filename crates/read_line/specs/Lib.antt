@@ -4,4 +4,5 @@ pub mod Lasts
 pub mod Numberings
 pub mod Reads
 pub mod Places
+pub mod Repeats
 pub mod Tasks

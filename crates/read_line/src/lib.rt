@@ -9,6 +9,7 @@ mod operation;
 mod place;
 mod reads;
 mod record;
+mod repeats;
 mod turns;
 
 pub use header::read_header;
@@ -18,4 +19,5 @@ pub use operation::{done_in, ends_later, key_in, read_line, record_in};
 pub use place::{line_at, line_of};
 pub use reads::Reads;
 pub use record::record_text;
+pub use repeats::has_repeats;
 pub use turns::{Last, TurnError, Turns};

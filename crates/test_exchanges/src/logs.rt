@@ -1,6 +1,7 @@
 //! Whole logs: which are such, and their counts.
 
-use exchanges_log::{has_repeats, read_exchanges};
+use exchanges_log::read_exchanges;
+use read_line::has_repeats;
 use std::alloc::{AllocError, Global};
 use std::test::Fail;
 

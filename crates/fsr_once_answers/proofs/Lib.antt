@@ -1,0 +1,4 @@
+mod KeysLemmas
+pub mod StatusLemmas
+pub mod SmallStatusLemmas
+pub mod OnceLemmas

@@ -1,0 +1,92 @@
+//! The answer to a log whose operations have several keys.
+ghost use Rattle.std.specs.Prelude.{◌≡◌, ℕ, List, IfOk};
+ghost use Rattle.program_runs.specs.Answers.{GivesReply, HasAnswerStatus};
+ghost use Rattle.lines_log.specs.Keys.{IsKeysLog};
+ghost use Rattle.fsr_once_answers.specs.KeysAnswers.{IsKeysAnswer, IsKeysVerdict, keys_exit, keys_status, printed};
+ghost use Rattle.fsr_once_answers.specs.KeysAnswers.{shown};
+ghost use Rattle.fsr_once_answers.specs.declared.keys_verdict.KeysVerdict.{KeysVerdict};
+
+use crate::answer::lawful_exit;
+use crate::keys_text::{added_up, keys_show_little, keys_text, small_keys};
+use crate::keys_verdict::{KeysVerdict, judge_keys};
+use history_core::Items;
+use lines_log::{KeysLog, read_keys};
+use program_runs::{Answer, Fault, Show};
+use program_streams::Exit;
+use std::alloc::{AllocError, Global};
+
+/// The answer of the command `order` to the bytes of a log in lines whose operations have several keys: whether each
+/// has a lawful order, or the first that has none, with what is asked for of it.
+pub fn order_keys(alloc: Global, show: Show, bytes: &[u8]) -> Result<Answer, Fault>
+    ensures { GivesReply (IsKeysAnswer show bytes.now) result }
+{
+    let log = match read_keys(alloc, bytes) {
+        Ok(log) => log,
+        Err(fault) => return Err(fault),
+    };
+    match answer_keys(alloc, show, bytes, &log) {
+        Ok(answer) => Ok(answer),
+        Err(_) => Err(Fault::NoMemory),
+    }
+}
+
+/// The verdict on each key, printed.
+fn answer_keys(alloc: Global, show: Show, bytes: &[u8], log: &KeysLog) -> Result<Answer, AllocError>
+    ensures { IfOk result (λ answer. (text : List ℕ) (is : IsKeysLog text log.now) →
+        (verdict : KeysVerdict) × IsKeysVerdict is verdict × (answer ≡ printed show bytes.now log.now verdict)) }
+{
+    let verdict = judge_keys(alloc, log)?;
+    print(alloc, show, bytes, log, &verdict)
+}
+
+fn print(
+    alloc: Global,
+    show: Show,
+    bytes: &[u8],
+    log: &KeysLog,
+    verdict: &KeysVerdict,
+) -> Result<Answer, AllocError>
+    ensures { IfOk result (λ answer. answer ≡ printed show bytes.now log.now verdict.now) }
+{
+    let text = shown(alloc, show, bytes, log, verdict)?;
+    let status = keys_status(show.strict, log, verdict)?;
+    Ok(Answer {
+        text: Items::new(text),
+        status,
+    })
+}
+
+fn shown(
+    alloc: Global,
+    show: Show,
+    bytes: &[u8],
+    log: &KeysLog,
+    verdict: &KeysVerdict,
+) -> Result<Vec<u8>, AllocError>
+    ensures { IfOk result (λ text. text.items ≡ shown show show.small bytes.now log.now verdict.now) }
+{
+    if show.small {
+        small_keys(alloc, log, verdict)
+    } else {
+        keys_text(alloc, show.order, bytes, log, verdict)
+    }
+}
+
+fn keys_status(strict: bool, log: &KeysLog, verdict: &KeysVerdict) -> Result<u8, AllocError>
+    ensures { IfOk result (λ status. status ≡ keys_status strict log.now verdict.now) }
+{
+    let exit = keys_exit(strict, log, verdict)?;
+    Ok(exit.status())
+}
+
+fn keys_exit(strict: bool, log: &KeysLog, verdict: &KeysVerdict) -> Result<Exit, AllocError>
+    ensures { IfOk result (λ exit. exit ≡ keys_exit strict log.now verdict.now) }
+{
+    match verdict {
+        KeysVerdict::Lawful { .. } => {
+            let sums = added_up(log.logs.as_slice())?;
+            Ok(lawful_exit(strict, keys_show_little(sums)))
+        }
+        KeysVerdict::Unlawful { .. } => Ok(Exit::Unsound),
+    }
+}

@@ -1,0 +1,40 @@
+//! Logs of either kind whose records are written once.
+ghost use Rattle.program_runs.specs.Answers.{GivesReply};
+ghost use Rattle.read_line.specs.Repeats.{has_repeats};
+ghost use Rattle.fsr_once_answers.specs.Once.{IsOnceInLines, IsAnswerOnce};
+
+use crate::by_keys::order_by_keys;
+use fsr_log_answers::order_document;
+use lines_log::refused_at;
+use program_runs::{Answer, Fault, Show};
+use read_document::{DocError, Key, are_lines};
+use read_line::has_repeats;
+use std::alloc::Global;
+
+/// The line of the header.
+const HEADER: usize = 1;
+
+/// The answer of the command `order` to the bytes of a document whose log writes each record once: a lawful order of
+/// it, or the reason why there is none. A log in lines is told by its first line, and refused if its records repeat.
+pub fn order_once(alloc: Global, show: Show, bytes: &[u8]) -> Result<Answer, Fault>
+    ensures { GivesReply (IsAnswerOnce show bytes.now) result }
+{
+    let in_lines = are_lines(alloc, bytes)?;
+    if in_lines {
+        order_in_lines(alloc, show, bytes)
+    } else {
+        order_document(alloc, bytes)
+    }
+}
+
+/// The answer to the bytes of a log in lines.
+fn order_in_lines(alloc: Global, show: Show, bytes: &[u8]) -> Result<Answer, Fault>
+    ensures { GivesReply (IsOnceInLines show (has_repeats bytes.now) bytes.now) result }
+{
+    let repeats = has_repeats(alloc, bytes)?;
+    if repeats {
+        Err(refused_at(HEADER, DocError::Law(Key::Repeats)))
+    } else {
+        order_by_keys(alloc, show, bytes)
+    }
+}

@@ -1,8 +1,0 @@
--- The limit that was asked for is the log's own.
-use Rattle.std.proofs.lemmas.Result.{IfOk-weaker}
-use Rattle.fsr_order_answers.proofs.LimitLemmas.{counted_limit}
-use Rattle.fsr_order_answers.proofs.limit.counted_by.Goals as goal
-
-pub returns-in-Limit : goal.returns-in-Limit
-returns-in-Limit c = IfOk-weaker c.most.result _ _ (λ most told. counted_limit c.args.thinned.now c.args.reason _ c.limit.result most
-    c.in-Limit.is c.limit.ensures told) c.most.ensures

@@ -1,8 +1,0 @@
--- Each turn prints one operation behind what was printed before.
-use Rattle.std.proofs.Common.{◌≡◌, ◌++◌, take}
-use Rattle.std.specs.List.{flat_map}
-use Rattle.fsr_order_answers.specs.Small.{next_text}
-use Rattle.fsr_order_answers.proofs.small.push_rest.Given as goal
-
-abbrev pub invariant-loop-op : goal.invariant-loop-op
-invariant-loop-op l = l.text.items ≡ l.initial.text.items ++ flat_map (next_text l.ops) (take l.op-index l.rest)

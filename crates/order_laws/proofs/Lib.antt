@@ -1,0 +1,4 @@
+mod LittleLemmas
+mod OnceLemmas
+mod OneKeyLemmas
+pub mod SmallLemmas

@@ -1,0 +1,68 @@
+//! Laws over the definitions.
+
+ghost use Rattle.std.specs.Prelude.{◌≡◌, ◌≢◌, ◌<◌, ◌≤◌, ◌↔◌, ℕ, List, [], Result, false, true};
+ghost use Rattle.history_core.specs.Orders.{IsVerdict, KeepsPrecedence};
+ghost use Rattle.history_core.specs.Reasons.{IsReason, rule_of};
+ghost use Rattle.history_core.specs.declared.history.Op.{Op};
+ghost use Rattle.history_core.specs.declared.history.Verdict.TheVariants.{Lawful};
+ghost use Rattle.history_core.specs.declared.reason.Reason.{Reason};
+ghost use Rattle.history_core.specs.declared.thinned.LogAnswer.{LogAnswer};
+ghost use Rattle.history_core.specs.declared.thinned.Thinned.{Thinned};
+ghost use Rattle.history_thinning.specs.Answers.{NamesKept};
+ghost use Rattle.history_thinning.specs.Thinnings.{Equal, IsThinnedLog, one_term};
+ghost use Rattle.history_thinning.specs.Tasks.{KeepsTasks};
+ghost use Rattle.lines_log.specs.Logs.{IsLinesLog};
+ghost use Rattle.lines_log.specs.declared.lines_log.LinesLog.{LinesLog};
+ghost use Rattle.program_runs.specs.declared.fault.Answer.{Answer};
+ghost use Rattle.program_runs.specs.declared.fault.Fault.{Fault};
+ghost use Rattle.program_runs.specs.declared.show.Show.{Show};
+ghost use Rattle.read_line.specs.Repeats.{has_repeats};
+ghost use Rattle.small_log.specs.Small.{small_ops};
+ghost use Rattle.fsr_once_answers.specs.ByKeys.{IsAnswerByKeys, IsAnswerIfSmall};
+ghost use Rattle.fsr_once_answers.specs.LinesAnswers.{status_of};
+ghost use Rattle.fsr_once_answers.specs.Once.{IsAnswerOnce};
+ghost use Rattle.fsr_once_answers.specs.Text.{shown_text};
+ghost use Rattle.fsr_order_answers.specs.Order.{IsOrderAnswer};
+ghost use Rattle.order_laws.specs.OneKey.{AreOfOneKey};
+
+use history_thinning::laws::tasks_in_order;
+
+/// Every order of a log in lines that keeps precedence, as a lawful one does, keeps each task's own order.
+pub fn lines_in_task_order()
+    ensures { (bytes : List ℕ) (log : List (Op ℕ)) (read : LinesLog) → IsLinesLog bytes log read →
+        (order : List ℕ) → KeepsPrecedence log order → KeepsTasks log order }
+{
+    tasks_in_order::<usize>();
+}
+
+/// A log whose operations all have one key, or none, is answered as if there were no other keys.
+pub fn one_key_as_one()
+    ensures { (show : Show) (bytes : List ℕ) (reply : Result Answer Fault) → AreOfOneKey bytes →
+        IsAnswerByKeys show bytes reply → IsAnswerIfSmall show show.small bytes reply }
+{}
+
+/// With `--strict` the status is 8 exactly where words say how little a lawful log shows, and else what it is without:
+/// 0 or 1.
+pub fn strict_by_words()
+    ensures little { (read : LinesLog) (found : LogAnswer) →
+        (status_of true read found ≡ 8) ↔ (shown_text read found ≢ []) }
+    ensures other { (read : LinesLog) (found : LogAnswer) → status_of true read found ≢ 8 →
+        status_of true read found ≡ status_of false read found }
+    ensures unasked { (read : LinesLog) (found : LogAnswer) → status_of false read found ≤ 1 }
+{}
+
+/// The small log of a log that is unlawful for another reason than its limit is unlawful by the same rule.
+pub fn small_is_unlawful()
+    ensures rule { (limit : ℕ) (log : List (Op ℕ)) (thinned : Thinned) (reason : Reason) →
+        IsThinnedLog limit log thinned → IsReason Equal 0 limit log reason → NamesKept thinned.places reason → rule_of reason < 5 →
+        (again : Reason) × (rule_of again ≡ rule_of reason) × IsReason Equal 0 limit (small_ops thinned reason) again }
+    ensures none { (limit : ℕ) (log : List (Op ℕ)) (thinned : Thinned) (reason : Reason) →
+        IsThinnedLog limit log thinned → IsReason Equal 0 limit log reason → NamesKept thinned.places reason → rule_of reason < 5 →
+        (order : List ℕ) → ¬ IsVerdict Equal 0 (one_term limit) (small_ops thinned reason) order Lawful }
+{}
+
+/// The answer to a log whose records don't repeat, by itself, is an answer of the command.
+pub fn once_as_any()
+    ensures { (show : Show) (bytes : List ℕ) (reply : Result Answer Fault) → has_repeats bytes ≡ false →
+        IsAnswerOnce show bytes reply → IsOrderAnswer show bytes reply }
+{}
