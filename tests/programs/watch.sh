@@ -99,6 +99,27 @@ watches "a header without repeats" 1 "$lost_3" "$(log '{"kind":"lines","opening"
 watches "a record that is written again" 0 'lawful
 3 operations, 0 unfinished, 0 uncertain, 1 floors' "$(log '{"kind":"lines","opening":0}' "$write_5" '{"kind":"floor","begin":3}' \
     '{"who":0,"kind":"write","begin":3,"end":4,"record":0}' '{"who":1,"kind":"read","begin":5,"end":6,"record":0}' '{"kind":"done","ops":3}')"
+# Twenty records, one after the other: but for the last all are forgotten at the floor.
+twenty() {
+    log '{"kind":"lines","opening":0}'
+    n=0
+    while [ $((n += 1)) -le 20 ]; do
+        echo '{"who":0,"kind":"write","begin":'$((2 * n))',"end":'$((2 * n + 1))',"record":'$n'}'
+    done
+    log '{"kind":"floor","begin":42}' "$@"
+}
+
+read_3='{"who":1,"kind":"read","begin":46,"end":47,"record":3}'
+write_3='{"who":0,"kind":"write","begin":44,"end":45,"record":3}'
+watches "a record that was forgotten" 1 'unlawful lost 23
+The log is lost at 47, when line 23 ended: no order of what is known by then is lawful, whatever comes.' "$(twenty "$read_3")"
+watches "a record that was forgotten and is written again" 0 'lawful
+22 operations, 0 unfinished, 0 uncertain, 2 floors; no last line `done`' "$(twenty "$write_3" '{"kind":"floor","begin":46}' "$read_3")"
+watches "the last record, behind a floor" 0 'lawful
+21 operations, 0 unfinished, 0 uncertain, 1 floors; no last line `done`' "$(twenty '{"who":1,"kind":"read","begin":46,"end":47,"record":20}')"
+watches "a compare-and-set from the last record to one that was forgotten" 0 'lawful
+22 operations, 0 unfinished, 0 uncertain, 1 floors; no last line `done`' "$(twenty \
+    '{"who":0,"kind":"cas","begin":44,"end":45,"from":20,"record":3,"swapped":true}' "$read_3")"
 watches "no operation" 0 'lawful
 0 operations, 0 unfinished, 0 uncertain, 0 floors; no last line `done`' "$header"
 watches "counts, out of order, with blank lines" 0 'lawful
@@ -185,6 +206,9 @@ else
     wanted_status=0
     printf 'lawful\n3 operations, 1 unfinished, 0 uncertain, 1 floors; no last line `done`\n' >"$room/wanted"
     refuse_each fsr "$room/lawful.jsonl" watch
+    twenty "$write_3" "$read_3" >"$room/many.jsonl"
+    printf 'lawful\n22 operations, 0 unfinished, 0 uncertain, 1 floors; no last line `done`\n' >"$room/wanted"
+    refuse_each fsr "$room/many.jsonl" watch
     log "$header" "$write_5" '{"kind":"floor","begin":3}' "$write_5" >"$room/late.jsonl"
     wanted_status=3
     : >"$room/wanted"
@@ -224,6 +248,7 @@ elif ! has_program fsr; then
     fail "random logs that are watched" "fsr wasn't built"
 else
     compares_watches "random logs that are watched" 3000 1 "$built/fsr/out/fsr" watch
+    compares_watches "random logs of many records" 200 2 --many "$built/fsr/out/fsr" watch
     catches "a lost log that is told as lawful" "the reference:" compares_wrongly 's/^unlawful lost.*/lawful/'
     catches "another moment" "the reference:" compares_wrongly 's/is lost at /is lost at 1/'
     catches "another count of floors" "the reference:" compares_wrongly 's/ floors/0 floors/'

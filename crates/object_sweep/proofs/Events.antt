@@ -1,19 +1,22 @@
 -- The events of a log, and their order.
 use Rattle.std.proofs.Common.{◌≡◌, ℕ, ◌+◌, ◌<◌, ◌≤◌, Bool, true, false, List, [], ◌∷◌, ◌++◌, length, get_or, slice_get}
 use Rattle.std.proofs.Common.{Option, None, Some, zero, suc, refl, sym, ◌∙◌, ap, subst, arith, ◌⊎◌, inl, inr}
-use Rattle.std.specs.Prelude.{nat_eq, nat_lt}
+use Rattle.std.specs.Prelude.{map, nat_eq, nat_lt, option_map}
+use Rattle.std.proofs.lemmas.List.{map-append}
 use Rattle.std.specs.List.{Contains}
-use Rattle.std.specs.List.Sorted.{IsPermutation, IsSorted}
+use Rattle.std.specs.List.Sorted.{IsPermutation, IsSortedByKey}
 use Rattle.std.specs.declared.cmp.Ordering.{Ordering}
 use Rattle.std.specs.declared.cmp.Ordering.TheVariants.{Less, Equal}
 use Rattle.std.specs.Ordering.{is_lt, nat_cmp, bool_cmp, ordering_then}
 use Rattle.std.proofs.lemmas.Bool.{cases_lt}
 use Rattle.std.proofs.lemmas.Bool.Decides.{nat_tests}
-use Rattle.std.proofs.lemmas.List.Sorted.{Contains-permutation, IsPermutation-sym, ranks_by, sorted_far}
-use Rattle.std.proofs.lemmas.Option.{get_or_from_slice_get, same_Some, slice_get-get_or, slice_get_within}
+use Rattle.std.proofs.lemmas.List.Sorted.{Contains-permutation, IsPermutation-map, IsPermutation-sym, ranks_by, sorted_far}
+use Rattle.std.proofs.lemmas.Option.{get_or_from_slice_get, same_Some, slice_get-get_or, slice_get-map, slice_get_within}
 use Rattle.object_core.specs.declared.operation.Operation.{Operation}
 use Rattle.object_sweep.specs.contracts.event.EventOrd.TheImpl.Laws.{total-law as EventTotal}
 use Rattle.object_sweep.specs.declared.event.Event.{Event}
+use Rattle.object_sweep.specs.declared.event.Turn.{Turn}
+use Rattle.object_sweep.specs.inner.Events.{end_turn, event_of, events_at, moment, moment_in, turns_of}
 use Rattle.object_sweep.specs.inner.Events.{HaveEvents, AreEvents, begins, end_of, ends, events_of, IsEventAmong, IsEvent, ComesNoLater}
 use Rattle.object_sweep.proofs.Lists.{get_front}
 
@@ -66,15 +69,23 @@ no_later x y h =
       place = λ e f. last_number x.place y.place (then_same x.ends y.ends _ (a.1 e) f);
     }
 
-sorted_in_order : (events : List Event) → IsSorted event_cmp events → (i j : ℕ) (x y : Event) → slice_get events i ≡ Some x →
-    slice_get events j ≡ Some y → i < j → ComesNoLater x y
-sorted_in_order events up i j x y ei ej l =
-    let far : is_lt (event_cmp (get_or events j x) (get_or events i x)) ≡ false =
-    sorted_far (λ u v. is_lt (event_cmp u v)) (ranks_by EventTotal (λ z. z)) events up i j x (omega arith) (slice_get_within events j y ej)
-    in
-    let gx : get_or events i x ≡ x = get_or_from_slice_get events i x x ei in
-    let gy : get_or events j x ≡ y = get_or_from_slice_get events j y x ej in
-    no_later x y (ap (λ z. is_lt (event_cmp z x)) (sym gy) ∙ (ap (λ z. is_lt (event_cmp (get_or events j x) z)) (sym gx) ∙ far))
+-- one among the mapped ones was mapped
+mapped : {T : Type 0} (key : T → Event) (m : Option T) (x : Event) → option_map key m ≡ Some x → (u : T) × (m ≡ Some u) × (key u ≡ x)
+mapped key None x e = cc
+mapped key (Some u) x e = (u, refl, same_Some (key u) x e)
+
+sorted_in_order : {T : Type 0} (key : T → Event) (turns : List T) → IsSortedByKey key event_cmp turns → (i j : ℕ) (x y : Event) →
+    slice_get (map key turns) i ≡ Some x → slice_get (map key turns) j ≡ Some y → i < j → ComesNoLater x y
+sorted_in_order key turns up i j x y ei ej l =
+    let u = mapped key (slice_get turns i) x (sym (slice_get-map key turns i) ∙ ei) in
+    let v = mapped key (slice_get turns j) y (sym (slice_get-map key turns j) ∙ ej) in
+    let far : is_lt (event_cmp (key (get_or turns j u.0)) (key (get_or turns i u.0))) ≡ false =
+    sorted_far (λ a b. is_lt (event_cmp (key a) (key b))) (ranks_by EventTotal key) turns up i j u.0 (omega arith)
+    (slice_get_within turns j v.0 v.1) in
+    let gx : key (get_or turns i u.0) ≡ x = ap key (get_or_from_slice_get turns i u.0 u.0 u.1) ∙ u.2 in
+    let gy : key (get_or turns j u.0) ≡ y = ap key (get_or_from_slice_get turns j v.0 u.0 v.1) ∙ v.2 in
+    no_later x y (ap (λ z. is_lt (event_cmp z x)) (sym gy)
+    ∙ (ap (λ z. is_lt (event_cmp (key (get_or turns j u.0)) z)) (sym gx) ∙ far))
 
 -- what is among these is among the sorted ones
 moved : (old new : List Event) → IsPermutation old new → (e : Event) → IsEventAmong e old → IsEventAmong e new
@@ -83,17 +94,36 @@ moved old new p e h =
     let c = Contains-permutation old new e p at in
     (c.0, slice_get-get_or new c.0 e c.1 ∙ ap Some c.2)
 
-pub sorted_events : {W : Type 0} (log : List (Operation W)) (old new : List Event) → HaveEvents log (length log) old →
-    IsPermutation old new →
-    IsSorted event_cmp new → AreEvents log new
+pub sorted_events : {W : Type 0} (log : List (Operation W)) (old new : List Turn) → HaveEvents log (length log) (events_at log old) →
+    IsPermutation old new → IsSortedByKey (event_of log) event_cmp new → AreEvents log (events_at log new)
 sorted_events log old new all p up = record {
   all = record {
-    each = λ e h. all.each e (moved new old (IsPermutation-sym old new p) e h);
-    begun = λ q o l at. moved old new p (begins o.starts q) (all.begun q o l at);
-    ended = λ q m o l at e. moved old new p (ends m q) (all.ended q m o l at e);
+    each = λ e h. all.each e
+        (moved (events_at log new) (events_at log old) (IsPermutation-sym (events_at log old) (events_at log new) q) e h);
+    begun = λ place o l at. moved (events_at log old) (events_at log new) q (begins o.starts place) (all.begun place o l at);
+    ended = λ place m o l at e. moved (events_at log old) (events_at log new) q (ends m place) (all.ended place m o l at e);
   };
-  in_order = sorted_in_order new up;
+  in_order = sorted_in_order (event_of log) new up;
 }
+  where
+    q : IsPermutation (events_at log old) (events_at log new)
+    q = IsPermutation-map (event_of log) old new p
+
+pub event_here : {W : Type 0} (log : List (Operation W)) (turns : List Turn) (i : ℕ) (turn : Turn) → slice_get turns i ≡ Some turn →
+    slice_get (events_at log turns) i ≡ Some (event_of log turn)
+event_here log turns i turn at = slice_get-map (event_of log) turns i ∙ ap (option_map (event_of log)) at
+
+-- the turns of an operation stand for its events
+end_stands : {W : Type 0} (log : List (Operation W)) (place : ℕ) (o : Operation W) → slice_get log place ≡ Some o → (m : Option ℕ) →
+    o.ends ≡ m → events_at log (end_turn m place) ≡ end_of m place
+end_stands log place o at None e = refl
+end_stands log place o at (Some end) e = ap (λ z. ends z place ∷ []) (ap (λ z. moment_in z true) at ∙ ap moment e)
+
+turns_stand : {W : Type 0} (log : List (Operation W)) (place : ℕ) (o : Operation W) → slice_get log place ≡ Some o →
+    events_at log (turns_of o place) ≡ events_of o place
+turns_stand log place o at =
+    ap (λ z. begins z place ∷ events_at log (end_turn o.ends place)) (ap (λ z. moment_in z false) at)
+    ∙ ap (λ z. begins o.starts place ∷ z) (end_stands log place o at o.ends refl)
 
 -- the events of one more operation
 among_front : (old more : List Event) (x : Event) → IsEventAmong x old → IsEventAmong x (old ++ more)
@@ -168,3 +198,10 @@ module _ {W : Type 0} (log : List (Operation W)) where
             let Q : ℕ → Type 0 = λ z. IsEventAmong (ends end z) (events_of o n) in
             among_more events (events_of o n) (ends end p) (subst Q (sym same) (suc f.0, f.1))
       ]
+
+  pub turns_more : (n : ℕ) (turns : List Turn) (o : Operation W) → slice_get log n ≡ Some o → HaveEvents log n (events_at log turns) →
+      HaveEvents log (n + 1) (events_at log (turns ++ turns_of o n))
+  turns_more n turns o at yet =
+      let P : List Event → Type 0 = λ z. HaveEvents log (n + 1) z in
+      subst P (sym (map-append (event_of log) turns (turns_of o n) ∙ ap (λ z. events_at log turns ++ z) (turns_stand log n o at)))
+      (all_more n (events_at log turns) o at yet)

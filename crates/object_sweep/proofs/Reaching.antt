@@ -8,6 +8,7 @@ use Rattle.object_sweep.specs.inner.Steps.{IsPassed, IsTried, KeepsSound, may_be
 use Rattle.object_sweep.specs.Reached.{is_in}
 use Rattle.object_sweep.proofs.Adding.{left_sound, passed, reached_of, tried_sound}
 use Rattle.object_sweep.proofs.Fronts.{taken}
+use Rattle.object_sweep.proofs.Lists.{at_is_in}
 
 never : false ≡ true → ⊥
 never e = cc
@@ -28,6 +29,13 @@ module _ {S W : Type 0} (after : S → W → Option S) (log : List (Operation W)
     adds_tried n q at waiting kept waiting' kept' h opening ended end next way r lack =
         tried_sound sure after opening log ended under_way ending end next way s placed n q at r lack waiting kept waiting' kept'
         (step_from after log s placed q) refl h
+
+    -- one that is under way
+    pub adds_under_way : (q : ℕ) → is_in q under_way ≡ true → (waiting kept waiting' kept' : List (Configuration S)) →
+        IsTried sure (step_from after log s placed q) ending placed q waiting kept waiting' kept' →
+        AddsReached after log under_way ending s placed waiting kept waiting' kept'
+    adds_under_way q here waiting kept waiting' kept' h =
+        let at = at_is_in under_way q here in adds_tried at.0 q at.1 waiting kept waiting' kept' h
 
   pub adds_more : (under_way : List ℕ) (ending : ℕ) (s : S) (placed : List ℕ)
       (waiting kept waiting' kept' waiting'' kept'' : List (Configuration S)) →

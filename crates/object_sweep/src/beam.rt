@@ -4,13 +4,14 @@ ghost use Rattle.std.specs.Prelude.{◌≡◌, ◌<◌, IfOk, OnOk, true};
 ghost use Rattle.object_sweep.specs.Rests.{RunForwards};
 ghost use Rattle.object_sweep.specs.inner.Beams.{AreLeftOf, IsFirstMark, IsMarkOf, IsNarrow, MayHaveMarked};
 ghost use Rattle.object_sweep.specs.inner.Ends.{IsNarrowlyPassed};
-ghost use Rattle.object_sweep.specs.inner.Events.{AreEvents};
+ghost use Rattle.object_sweep.specs.inner.Events.{AreEvents, events_at};
 
-use crate::event::Event;
+use crate::event::Turn;
 use crate::front::{Front, Mark, copied_front, first_front};
 use crate::log_sweep::Verdict;
-use crate::narrow::{NARROW, Passed, is_unfinished, pass_narrowly};
+use crate::narrow::{NARROW, Passed, pass_narrowly};
 use crate::places::{is_in, without};
+use crate::unfinished::{Alike, begin, is_unfinished};
 use object_core::{Object, Operation};
 use std::alloc::{AllocError, Global};
 
@@ -22,6 +23,8 @@ const GROWS_BY: usize = 4;
 const MARK_EVERY: usize = 512;
 /// How often an event may be passed, in the mean, where few are held.
 const PASSES: usize = 2;
+/// What may be passed beside that, so that a short log has room to be wider.
+const SPARE: usize = 128;
 /// How many operations that have an end may be under way at once.
 const MOST_AT_ONCE: usize = 24;
 
@@ -86,6 +89,7 @@ fn end_narrowly<O: Object>(
     log: &[Operation<O::What>],
     place: usize,
     width: usize,
+    unfinished: &[Alike],
     front: &mut Front<O>,
 ) -> Result<Passing, AllocError>
     ensures { IfOk result (IsNarrowlyPassed true O.after log.now place front.old.whole front.old.under_way.items
@@ -99,6 +103,7 @@ fn end_narrowly<O: Object>(
         alloc,
         log,
         front.under_way.as_slice(),
+        unfinished,
         place,
         held,
         width,
@@ -121,18 +126,21 @@ fn end_narrowly<O: Object>(
 fn pass_event_narrowly<O: Object>(
     alloc: Global,
     log: &[Operation<O::What>],
-    event: &Event,
+    turn: &Turn,
     width: usize,
+    unfinished: &mut Vec<Alike>,
     front: &mut Front<O>,
 ) -> Result<Passing, AllocError>
-    ensures { IfOk result (IsNarrowlyPassed event.now.ends O.after log.now event.now.place front.old.whole
+    ensures { IfOk result (IsNarrowlyPassed turn.now.ends O.after log.now turn.now.place front.old.whole
         front.old.under_way.items front.old.configurations.items front.new.whole front.new.under_way.items
         front.new.configurations.items) }
 {
-    if event.ends {
-        return end_narrowly(alloc, log, event.place, width, front);
+    let place = turn.place as usize;
+    if turn.ends {
+        return end_narrowly(alloc, log, place, width, unfinished.as_slice(), front);
     }
-    front.under_way.push(event.place)?;
+    begin::<O>(alloc, log, place, unfinished)?;
+    front.under_way.push(place)?;
     Ok(Passing::On)
 }
 
@@ -218,31 +226,32 @@ pub(crate) fn sweep_narrowly<O: Object>(
     alloc: Global,
     opening: O,
     log: &[Operation<O::What>],
-    events: &[Event],
+    turns: &[Turn],
     budget: usize,
 ) -> Result<Narrow<O>, AllocError>
     requires forwards { RunForwards log.now }
-    requires events { AreEvents log.now events.now }
-    ensures { IfOk result (IsNarrow O.after opening log.now events.now budget) }
+    requires events { AreEvents log.now (events_at log.now turns.now) }
+    ensures { IfOk result (IsNarrow O.after opening log.now (events_at log.now turns.now) budget) }
 {
     let mut marks = Vec::new(alloc);
     let mut at = first_mark(alloc, opening)?;
     let mut beam = Beam::narrow();
-    let mut left = events.len().saturating_mul(PASSES);
-    while at.done < events.len() && left > 0 && beam.width <= budget.min(WIDEST) {
-        if is_crowded(log, at.front.under_way.as_slice()) {
+    let mut unfinished = Vec::new(alloc);
+    let mut left = turns.len().saturating_mul(PASSES).saturating_add(SPARE);
+    while at.done < turns.len() && left > 0 && beam.width <= budget.min(WIDEST) {
+        let turn = &turns[at.done];
+        if turn.ends && is_crowded(log, at.front.under_way.as_slice()) {
             break;
         }
         left = left.saturating_sub(cost_of(at.front.configurations.len()));
-        let event = &events[at.done];
-        match pass_event_narrowly(alloc, log, event, beam.width, &mut at.front)? {
+        match pass_event_narrowly(alloc, log, turn, beam.width, &mut unfinished, &mut at.front)? {
             Passing::On => {
                 at.done += 1;
                 beam = beam.behind(at.done);
                 mark(alloc, &at, &mut marks)?;
             }
             Passing::Lost => {
-                let place = event.place;
+                let place = turn.place as usize;
                 return Ok(Narrow::Known(Verdict::Unlawful { place }));
             }
             Passing::Nothing => {
@@ -251,7 +260,7 @@ pub(crate) fn sweep_narrowly<O: Object>(
             }
         }
     }
-    if at.done < events.len() {
+    if at.done < turns.len() {
         return Ok(Narrow::Open(last_whole(alloc, opening, marks)?));
     }
     Ok(Narrow::Known(Verdict::Lawful))

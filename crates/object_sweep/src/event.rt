@@ -3,60 +3,83 @@
 ghost use Rattle.std.specs.Prelude.{◌↔◌, ◌≡◌, ◌<◌, ◌++◌, IfNone, IfOk, IfSome, IsSomeAnd, IsTrue, OnOk};
 ghost use Rattle.object_sweep.specs.Rests.{RunForwards};
 ghost use Rattle.object_sweep.specs.Verdicts.{RanBackwards};
-ghost use Rattle.object_sweep.specs.inner.Events.{AreEvents, end_of, events_of};
+ghost use Rattle.object_sweep.specs.inner.Events.{AreEvents, end_turn, event_of, events_at, moment_of, turns_of};
 
 use object_core::Operation;
 use std::alloc::{AllocError, Global};
 
 /// An operation begins or ends. At one moment all begin before any ends.
-#[derive(Clone, Copy, PartialEq, Eq, PartialOrd, Ord)]
+#[derive(Clone, Copy, PartialEq, Eq, PartialOrd, Ord, Drop)]
 pub(crate) struct Event {
     pub at: u64,
     pub ends: bool,
     pub place: usize,
 }
 
-fn push_end(events: &mut Vec<Event>, ends: Option<u64>, place: usize) -> Result<(), AllocError>
-    ensures { OnOk result (events.new.items ≡ events.old.items ++ end_of ends place) }
+/// An event without its moment, which the log tells. A long log has many.
+#[derive(Clone, Copy)]
+pub(crate) struct Turn {
+    pub ends: bool,
+    pub place: u32,
+}
+
+/// When an operation begins or ends.
+fn moment_of<W>(log: &[Operation<W>], place: usize, ends: bool) -> u64
+    ensures { result ≡ moment_of log.now place ends }
 {
-    let Some(at) = ends else {
-        return Ok(());
-    };
-    events.push(Event {
-        at,
-        ends: true,
+    match log.get(place) {
+        Some(op) => if ends {
+            op.ends.unwrap_or(0)
+        } else {
+            op.starts
+        },
+        None => 0,
+    }
+}
+
+fn event_of<W>(log: &[Operation<W>], turn: Turn) -> Event
+    ensures { result ≡ event_of log.now turn }
+{
+    let place = turn.place as usize;
+    Event {
+        at: moment_of(log, place, turn.ends),
+        ends: turn.ends,
         place,
-    })?;
+    }
+}
+
+fn push_end(turns: &mut Vec<Turn>, ends: Option<u64>, place: u32) -> Result<(), AllocError>
+    ensures { OnOk result (turns.new.items ≡ turns.old.items ++ end_turn ends place) }
+{
+    if ends.is_none() {
+        return Ok(());
+    }
+    turns.push(Turn { ends: true, place })?;
     Ok(())
 }
 
 /// The beginning of an operation, and its end.
-fn push_events<W>(
-    events: &mut Vec<Event>,
-    op: &Operation<W>,
-    place: usize,
-) -> Result<(), AllocError>
-    ensures { OnOk result (events.new.items ≡ events.old.items ++ events_of op.now place) }
+fn push_turns<W>(turns: &mut Vec<Turn>, op: &Operation<W>, place: u32) -> Result<(), AllocError>
+    ensures { OnOk result (turns.new.items ≡ turns.old.items ++ turns_of op.now place) }
 {
-    events.push(Event {
-        at: op.starts,
-        ends: false,
-        place,
-    })?;
-    push_end(events, op.ends, place)?;
+    turns.push(Turn { ends: false, place })?;
+    push_end(turns, op.ends, place)?;
     Ok(())
 }
 
-/// All events, in order.
-pub(crate) fn events_in<W>(alloc: Global, log: &[Operation<W>]) -> Result<Vec<Event>, AllocError>
-    ensures { IfOk result (λ v. AreEvents log.now v.items) }
+/// All events, in order. There is no memory for more operations than a `u32` counts: each has some fifty bytes.
+pub(crate) fn turns_in<W>(alloc: Global, log: &[Operation<W>]) -> Result<Vec<Turn>, AllocError>
+    ensures { IfOk result (λ v. AreEvents log.now (events_at log.now v.items)) }
 {
-    let mut events = Vec::new(alloc);
+    let mut turns = Vec::new(alloc);
     for place in 0..log.len() {
-        push_events(&mut events, &log[place], place)?;
+        let Ok(narrow) = u32::try_from(place) else {
+            return Err(AllocError);
+        };
+        push_turns(&mut turns, &log[place], narrow)?;
     }
-    events.sort_unstable();
-    Ok(events)
+    turns.sort_unstable_by_key(|turn| event_of(log, *turn));
+    Ok(turns)
 }
 
 /// The first operation that ended before it began.

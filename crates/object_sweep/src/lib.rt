@@ -11,6 +11,7 @@ pub mod laws;
 mod log_sweep;
 mod narrow;
 mod places;
+mod unfinished;
 
 pub use configuration::Configuration;
 pub use log_sweep::{SweepError, Verdict, sweep};

@@ -4,11 +4,11 @@ ghost use Rattle.std.specs.Prelude.{IfOk, MatchResult};
 ghost use Rattle.object_sweep.specs.Rests.{RunForwards};
 ghost use Rattle.object_sweep.specs.Verdicts.{IsSweepFault, IsSweepVerdict};
 ghost use Rattle.object_sweep.specs.inner.Ends.{IsEndPassed, IsEventPassed};
-ghost use Rattle.object_sweep.specs.inner.Events.{AreEvents};
+ghost use Rattle.object_sweep.specs.inner.Events.{AreEvents, events_at};
 
 use crate::beam::{Narrow, sweep_narrowly};
 use crate::ending::pass;
-use crate::event::{Event, events_in, first_backwards};
+use crate::event::{Turn, first_backwards, turns_in};
 use crate::front::{Front, Mark};
 use crate::places::{is_in, without};
 use object_core::{Object, Operation};
@@ -62,30 +62,30 @@ fn sweep_log<O: Object>(
     requires { RunForwards log.now }
     ensures { IfOk result (IsSweepVerdict O.after opening log.now budget) }
 {
-    let events = events_in(alloc, log)?;
-    sweep_events(alloc, opening, log, events.as_slice(), budget)
+    let turns = turns_in(alloc, log)?;
+    sweep_events(alloc, opening, log, turns.as_slice(), budget)
 }
 
 fn sweep_events<O: Object>(
     alloc: Global,
     opening: O,
     log: &[Operation<O::What>],
-    events: &[Event],
+    turns: &[Turn],
     budget: usize,
 ) -> Result<Verdict, AllocError>
     requires forwards { RunForwards log.now }
-    requires events { AreEvents log.now events.now }
+    requires events { AreEvents log.now (events_at log.now turns.now) }
     ensures { IfOk result (IsSweepVerdict O.after opening log.now budget) }
 {
     let Mark {
         mut done,
         mut front,
-    } = match sweep_narrowly(alloc, opening, log, events, budget)? {
+    } = match sweep_narrowly(alloc, opening, log, turns, budget)? {
         Narrow::Known(verdict) => return Ok(verdict),
         Narrow::Open(mark) => mark,
     };
-    while done < events.len() {
-        if let Some(verdict) = pass_event(alloc, log, &events[done], budget, &mut front)? {
+    while done < turns.len() {
+        if let Some(verdict) = pass_event(alloc, log, &turns[done], budget, &mut front)? {
             return Ok(verdict);
         }
         done += 1;
@@ -132,16 +132,17 @@ fn end<O: Object>(
 fn pass_event<O: Object>(
     alloc: Global,
     log: &[Operation<O::What>],
-    event: &Event,
+    turn: &Turn,
     budget: usize,
     front: &mut Front<O>,
 ) -> Result<Option<Verdict>, AllocError>
-    ensures { IfOk result (IsEventPassed event.now.ends O.after log.now budget event.now.place front.old.under_way.items
+    ensures { IfOk result (IsEventPassed turn.now.ends O.after log.now budget turn.now.place front.old.under_way.items
         front.old.configurations.items front.new.under_way.items front.new.configurations.items) }
 {
-    if event.ends {
-        return end(alloc, log, event.place, budget, front);
+    let place = turn.place as usize;
+    if turn.ends {
+        return end(alloc, log, place, budget, front);
     }
-    front.under_way.push(event.place)?;
+    front.under_way.push(place)?;
     Ok(None)
 }

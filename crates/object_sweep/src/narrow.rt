@@ -6,8 +6,10 @@ ghost use Rattle.object_sweep.specs.inner.Steps.{AddsReached, IsNarrowed, IsPass
 use crate::configuration::Configuration;
 use crate::ending::{
     Ending, close, copied, fewest_placed_first, first_for, is_to_be_tried, leave_out, pure_next,
-    start, step_from, try_place,
+    start, try_place,
 };
+use crate::places::is_in;
+use crate::unfinished::{Alike, is_unfinished};
 use object_core::{Object, Operation};
 use std::alloc::{AllocError, Global};
 
@@ -24,52 +26,136 @@ pub(crate) struct Passed<O> {
     pub whole: bool,
 }
 
-/// Whether an operation never ended.
-pub(crate) fn is_unfinished<W>(log: &[Operation<W>], place: usize) -> bool {
+/// Those that have an end.
+fn with_end<W>(
+    alloc: Global,
+    log: &[Operation<W>],
+    under_way: &[usize],
+) -> Result<Vec<usize>, AllocError> {
+    under_way
+        .iter()
+        .copied()
+        .filter(|place| !is_unfinished(log, *place))
+        .collect(alloc)
+}
+
+/// The state after the operation at a place, if it can be made.
+fn state_after<O: Object>(log: &[Operation<O::What>], state: O, place: usize) -> Option<O> {
     match log.get(place) {
-        Some(op) => op.ends.is_none(),
-        None => false,
+        Some(op) => state.step(op.what),
+        None => None,
     }
 }
 
-/// Those that have an end and can't be placed yet.
+/// Whether an operation isn't placed, and can't be yet.
+fn is_stuck<O: Object>(log: &[Operation<O::What>], from: &Configuration<O>, place: usize) -> bool {
+    state_after(log, from.state, place).is_none() && !is_in(place, from.placed.as_slice())
+}
+
+/// Those of these that can't be placed yet.
 fn stuck_in<O: Object>(
     alloc: Global,
     log: &[Operation<O::What>],
-    under_way: &[usize],
+    with_end: &[usize],
     from: &Configuration<O>,
 ) -> Result<Vec<usize>, AllocError> {
-    let mut stuck = Vec::new(alloc);
-    for place in under_way {
-        if !is_unfinished(log, *place)
-            && step_from(log, from.state, from.placed.as_slice(), *place).is_none()
-        {
-            stuck.push(*place)?;
-        }
-    }
-    Ok(stuck)
+    with_end
+        .iter()
+        .copied()
+        .filter(|place| is_stuck(log, from, *place))
+        .collect(alloc)
 }
 
-/// Whether an operation is tried: one that never ended only where it lets another one be placed that can't be yet.
+/// Whether an operation lets one of these be placed. None of them is placed.
 fn is_wanted<O: Object>(
     log: &[Operation<O::What>],
     stuck: &[usize],
-    from: &Configuration<O>,
+    state: O,
     place: usize,
 ) -> bool {
-    if !is_unfinished(log, place) {
-        return true;
-    }
-    if stuck.is_empty() {
-        return false;
-    }
-    let placed = from.placed.as_slice();
-    match step_from(log, from.state, placed, place) {
-        Some(state) => stuck
+    match state_after(log, state, place) {
+        Some(next) => stuck
             .iter()
-            .any(|other| step_from(log, state, placed, *other).is_some()),
+            .any(|other| state_after(log, next, *other).is_some()),
         None => false,
     }
+}
+
+/// Of those that never ended and do the same the one that is tried, if another operation waits for it.
+fn wanted_of<O: Object>(
+    log: &[Operation<O::What>],
+    stuck: &[usize],
+    chosen: &[usize],
+    from: &Configuration<O>,
+    alike: &Alike,
+) -> Option<usize> {
+    let placed = from.placed.as_slice();
+    let place = alike.first_open(placed)?;
+    if is_wanted(log, stuck, from.state, place) && is_to_be_tried::<O>(log, placed, chosen, place) {
+        Some(place)
+    } else {
+        None
+    }
+}
+
+/// Chooses what is tried of those that never ended: where something can't be placed yet, one of each that do the same.
+fn choose_unfinished<O: Object>(
+    alloc: Global,
+    log: &[Operation<O::What>],
+    with_end: &[usize],
+    unfinished: &[Alike],
+    from: &Configuration<O>,
+    chosen: &mut Vec<usize>,
+) -> Result<(), AllocError> {
+    let stuck = stuck_in(alloc, log, with_end, from)?;
+    if stuck.is_empty() {
+        return Ok(());
+    }
+    for alike in unfinished {
+        if let Some(place) = wanted_of(log, stuck.as_slice(), chosen.as_slice(), from, alike) {
+            chosen.push(place)?;
+        }
+    }
+    Ok(())
+}
+
+/// The operations that are tried: of those that have an end all that have to be, and those that never ended only where
+/// they let another one be placed that can't be yet.
+fn chosen_from<O: Object>(
+    alloc: Global,
+    log: &[Operation<O::What>],
+    with_end: &[usize],
+    unfinished: &[Alike],
+    from: &Configuration<O>,
+) -> Result<Vec<usize>, AllocError> {
+    let mut chosen = Vec::new(alloc);
+    let placed = from.placed.as_slice();
+    for place in with_end {
+        if is_to_be_tried::<O>(log, placed, chosen.as_slice(), *place) {
+            chosen.push(first_for::<O>(log, with_end, placed, *place))?;
+        }
+    }
+    choose_unfinished(alloc, log, with_end, unfinished, from, &mut chosen)?;
+    Ok(chosen)
+}
+
+/// Places one more operation, if it is under way and can be placed.
+fn try_under_way<O: Object>(
+    alloc: Global,
+    log: &[Operation<O::What>],
+    under_way: &[usize],
+    ending: usize,
+    from: &Configuration<O>,
+    place: usize,
+    sets: &mut Ending<O>,
+) -> Result<(), AllocError>
+    ensures { OnOk result (AddsReached O.after log.now under_way.now ending from.now.state from.now.placed.items
+        sets.old.waiting.items sets.old.kept.items sets.new.waiting.items sets.new.kept.items) }
+{
+    if !is_in(place, under_way) {
+        return Ok(());
+    }
+    try_place(alloc, log, ending, from, place, sets)
 }
 
 /// What a configuration leads to by the operations that are tried.
@@ -77,6 +163,8 @@ fn explore_wanted<O: Object>(
     alloc: Global,
     log: &[Operation<O::What>],
     under_way: &[usize],
+    with_end: &[usize],
+    unfinished: &[Alike],
     ending: usize,
     from: &Configuration<O>,
     sets: &mut Ending<O>,
@@ -85,16 +173,9 @@ fn explore_wanted<O: Object>(
         sets.old.waiting.items sets.old.kept.items sets.new.waiting.items sets.new.kept.items) }
 {
     leave_out(alloc, log, ending, from, sets)?;
-    let stuck = stuck_in(alloc, log, under_way, from)?;
-    let mut tried = Vec::new(alloc);
-    for place in under_way {
-        if is_wanted(log, stuck.as_slice(), from, *place)
-            && is_to_be_tried::<O>(log, from.placed.as_slice(), tried.as_slice(), *place)
-        {
-            let first = first_for::<O>(log, under_way, from.placed.as_slice(), *place);
-            try_place(alloc, log, ending, from, first, sets)?;
-            tried.push(first)?;
-        }
+    let chosen = chosen_from(alloc, log, with_end, unfinished, from)?;
+    for place in chosen.as_slice() {
+        try_under_way(alloc, log, under_way, ending, from, *place, sets)?;
     }
     Ok(())
 }
@@ -104,6 +185,8 @@ fn visit_wanted<O: Object>(
     alloc: Global,
     log: &[Operation<O::What>],
     under_way: &[usize],
+    with_end: &[usize],
+    unfinished: &[Alike],
     ending: usize,
     from: &Configuration<O>,
     sets: &mut Ending<O>,
@@ -111,9 +194,11 @@ fn visit_wanted<O: Object>(
     ensures { OnOk result (AddsReached O.after log.now under_way.now ending from.now.state from.now.placed.items
         sets.old.waiting.items sets.old.kept.items sets.new.waiting.items sets.new.kept.items) }
 {
-    match pure_next(log, under_way, from) {
-        Some(place) => try_place(alloc, log, ending, from, place, sets),
-        None => explore_wanted(alloc, log, under_way, ending, from, sets),
+    match pure_next(log, with_end, from) {
+        Some(place) => try_under_way(alloc, log, under_way, ending, from, place, sets),
+        None => explore_wanted(
+            alloc, log, under_way, with_end, unfinished, ending, from, sets,
+        ),
     }
 }
 
@@ -122,6 +207,8 @@ fn close_wanted<O: Object>(
     alloc: Global,
     log: &[Operation<O::What>],
     under_way: &[usize],
+    with_end: &[usize],
+    unfinished: &[Alike],
     ending: usize,
     most: usize,
     sets: &mut Ending<O>,
@@ -132,7 +219,9 @@ fn close_wanted<O: Object>(
     let mut next: usize = 0;
     while next < sets.waiting.len() && next < most {
         let from = copied(alloc, sets.waiting.as_slice(), next)?;
-        visit_wanted(alloc, log, under_way, ending, &from, sets)?;
+        visit_wanted(
+            alloc, log, under_way, with_end, unfinished, ending, &from, sets,
+        )?;
         next += 1;
     }
     Ok(())
@@ -143,14 +232,19 @@ fn pass_wanted<O: Object>(
     alloc: Global,
     log: &[Operation<O::What>],
     under_way: &[usize],
+    unfinished: &[Alike],
     ending: usize,
     configurations: &[Configuration<O>],
     most: usize,
 ) -> Result<Vec<Configuration<O>>, AllocError>
     ensures { IfOk result (λ v. IsPassed false O.after log.now under_way.now ending configurations.now v.items) }
 {
+    let ended = with_end(alloc, log, under_way)?;
+    let with_end = ended.as_slice();
     let mut sets = start(alloc, log, ending, configurations)?;
-    close_wanted(alloc, log, under_way, ending, most, &mut sets)?;
+    close_wanted(
+        alloc, log, under_way, with_end, unfinished, ending, most, &mut sets,
+    )?;
     let Ending { waiting: _, kept } = sets;
     Ok(fewest_placed_first(kept))
 }
@@ -191,6 +285,7 @@ pub(crate) fn pass_narrowly<O: Object>(
     alloc: Global,
     log: &[Operation<O::What>],
     under_way: &[usize],
+    unfinished: &[Alike],
     ending: usize,
     configurations: &[Configuration<O>],
     width: usize,
@@ -198,8 +293,16 @@ pub(crate) fn pass_narrowly<O: Object>(
     ensures { IfOk result (λ r. IsPassed r.whole O.after log.now under_way.now ending configurations.now r.kept.items) }
 {
     let most = width.saturating_mul(EXPLORED);
-    let passed = if width <= NARROW && under_way.iter().any(|place| is_unfinished(log, *place)) {
-        let kept = pass_wanted(alloc, log, under_way, ending, configurations, most)?;
+    let passed = if width <= NARROW && !unfinished.is_empty() {
+        let kept = pass_wanted(
+            alloc,
+            log,
+            under_way,
+            unfinished,
+            ending,
+            configurations,
+            most,
+        )?;
         Passed { kept, whole: false }
     } else {
         pass_open(alloc, log, under_way, ending, configurations, most)?

@@ -4,7 +4,9 @@ use Rattle.std.proofs.Common.{inl, inr}
 use Rattle.std.proofs.lemmas.Bool.{cases_lt}
 use Rattle.std.proofs.lemmas.Option.{same_Some, slice_get_within, slice_get-get_or}
 use Rattle.object_core.specs.declared.operation.Operation.{Operation}
-use Rattle.object_watch.specs.Remainders.{AnyLawfulWith, AreAhead, ComesFrom, IsAhead, IsLawfulWith, IsOneOfLog, IsOfOne, removed}
+use Rattle.object_watch.specs.Remainders.{AnyLawfulWith, AreAhead, AreLedTo, ComesFrom, IsAhead, IsLawfulWith, IsOneOfLog, IsOfOne, removed}
+use Rattle.object_watch.specs.Remainders.{IsLedTo}
+use Rattle.object_watch.specs.Remainders.IsLedTo.{Held, Leads}
 use Rattle.object_watch.specs.declared.remainder.Remainder.{Remainder}
 use Rattle.object_watch.specs.inner.Levels.{AreLeftBehind, IsCopiedAt, IsEnding, IsEndingAt, AreStillThere, IsSeenTo, IsLeftBy}
 use Rattle.object_watch.specs.inner.Levels.{IsLookedInto}
@@ -42,6 +44,7 @@ module _ {S W : Type 0} (after : S → W → Option S) (end : ℕ) (held : List 
   record IsReached (s : S) (rest : List (Operation W)) : Type 0 where
     ahead : IsAhead end rest
     of : (o : Operation W) → IsOneOfLog rest o → IsOfOne held o
+    led : IsLedTo after held s
     sound : (future : List (Operation W)) (last : ℕ) → ComesFrom (end + 1) last future → IsLawfulWith after future last s rest →
         AnyLawfulWith after future last held
 
@@ -49,6 +52,7 @@ module _ {S W : Type 0} (after : S → W → Option S) (end : ℕ) (held : List 
   reached_first ahead i one e = record {
     ahead = ahead i one e;
     of = λ o x. (i, one, e, x);
+    led = Held i one e;
     sound = λ future last is h. (i, one, e, h);
   }
 
@@ -57,6 +61,7 @@ module _ {S W : Type 0} (after : S → W → Option S) (end : ℕ) (held : List 
   reached_left s rest t less p ends (inl (q, a, at, began, step, same)) h = record {
     ahead = ahead_less end rest less q same h.ahead;
     of = λ o x. h.of o (up q x.0, left_of end rest less q same x.0 o x.1);
+    led = Leads s t a h.led (h.of a (q, at)) step;
     sound = sound;
   }
     where
@@ -69,6 +74,7 @@ module _ {S W : Type 0} (after : S → W → Option S) (end : ℕ) (held : List 
   reached_left s rest t less p ends (inr (q, o, at, ending, may, still, same)) h = record {
     ahead = ahead_less end rest less q same h.ahead;
     of = λ o x. h.of o (up q x.0, left_of end rest less q same x.0 o x.1);
+    led = subst (IsLedTo after held) (sym still) h.led;
     sound = sound;
   }
     where
@@ -158,7 +164,10 @@ module _ {S W : Type 0} (after : S → W → Option S) (end : ℕ) (held : List 
   passing_all n seen kept h all = record {
     goes = λ future last is. (onward future last is, back future last is);
     ahead = λ i one e. ahead_later end one.rest.items (h.behind i one e).0.ahead (h.behind i one e).1;
-    of = λ o x. (h.behind x.0 x.1 x.2).0.of o x.3;
+    of = record {
+      states = λ i one e. (h.behind i one e).0.led;
+      operations = λ o x. (h.behind x.0 x.1 x.2).0.of o x.3;
+    };
   }
     where
       onward : (future : List (Operation W)) (last : ℕ) → ComesFrom (end + 1) last future → AnyLawfulWith after future last kept →
@@ -171,3 +180,19 @@ module _ {S W : Type 0} (after : S → W → Option S) (end : ℕ) (held : List 
           closed after end future last is seen kept (λ i one e. (h.reached i one e).ahead)
           (λ i one e. h.handled i one (let l = slice_get_within seen i one e in omega (arith, l, all)) e)
           (x.0, x.1, h.start x.0 x.1 x.2, x.3)
+
+-- ---- what is held leads to
+
+pub led_same : {S W : Type 0} (after : S → W → Option S) (held : List (Remainder S W)) → AreLedTo after held held
+led_same after held = record { states = λ i one e. Held i one e; operations = λ o x. x }
+
+module _ {S W : Type 0} (after : S → W → Option S) (held mid : List (Remainder S W)) (first : AreLedTo after held mid) where
+  led_on : (s : S) → IsLedTo after mid s → IsLedTo after held s
+  led_on s (Held i one e) = first.states i one e
+  led_on s (Leads r t o led of step) = Leads r t o (led_on r led) (first.operations o of) step
+
+  pub led_more : (new : List (Remainder S W)) → AreLedTo after mid new → AreLedTo after held new
+  led_more new next = record {
+    states = λ i one e. led_on one.state (next.states i one e);
+    operations = λ o x. first.operations o (next.operations o x);
+  }

@@ -10,8 +10,9 @@ use Rattle.object_core.specs.Logs.{IsLinearizable}
 use Rattle.object_sweep.specs.Rests.{RunForwards}
 use Rattle.object_sweep.proofs.Lists.{get_front, get_last, get_push}
 use Rattle.object_sweep.proofs.Whole.{last_end, opened}
-use Rattle.object_watch.specs.Remainders.{AnyLawfulWith, AreAhead, ComesFrom, IsLawfulWith, IsOneOfLog, IsOfOne, known, known_end}
-use Rattle.object_watch.specs.Watches.{AreTooManyAt, IsHeldOf, IsLawfulBetween, IsLawfulUntil, IsLostAfter, IsFirstLost}
+use Rattle.object_watch.specs.Remainders.{AnyLawfulWith, AreAhead, AreHeldWith, ComesFrom, IsLawfulWith, IsOneOfLog, IsOfOne, known}
+use Rattle.object_watch.specs.Remainders.{known_end}
+use Rattle.object_watch.specs.Watches.{AreOpenedAs, AreTooManyAt, IsHeldOf, IsLawfulBetween, IsLawfulUntil, IsLostAfter, IsFirstLost}
 use Rattle.object_watch.specs.declared.ends.End.{End}
 use Rattle.object_watch.specs.declared.remainder.Remainder.{Remainder}
 use Rattle.object_watch.specs.inner.Levels.{AreLeftBehind, AreTaken, IsNeedless, IsSoonestEnd, NoneIsOverBefore}
@@ -47,6 +48,10 @@ set_there xs i j x y ne e =
     slice_get-get_or (set xs i x) j y (omega (arith, l, long)) ∙ ap Some (get_or-set_other xs i j x y ne ∙ sym same)
 
 module _ {S W : Type 0} where
+  -- to none of them it was added
+  pub held_same : (op : Operation W) (held : List (Remainder S W)) → AreHeldWith op held held
+  held_same op held = record { states = λ i one e. (one, e, refl); operations = λ o x. inl x }
+
   -- one more has the operation
   pub taken_more : (n : ℕ) (op : Operation W) (old mid : List (Remainder S W)) (one : Remainder S W) → slice_get mid n ≡ Some one →
       AreTaken n op old mid → (new : Remainder S W) → new.state ≡ one.state → new.rest.items ≡ one.rest.items ++ op ∷ [] →
@@ -102,6 +107,20 @@ module _ {S W : Type 0} where
           ap (λ (z : Remainder S W). z.rest.items) (sym same) ∙ m.3,
         )
 
+    pub held_with : AreHeldWith op old new
+    held_with = record {
+      states = λ i x e. (let m = from i x e in (m.0, m.1, m.2));
+      operations = operations;
+    }
+      where
+        operations : (o : Operation W) → IsOfOne new o → IsOfOne old o ⊎ (o ≡ op)
+        operations o (i, x, e, pf) =
+            let m = from i x e in
+            elim (get_push m.0.rest.items op pf.0 o (ap (λ zs. slice_get zs pf.0) (sym m.3) ∙ pf.1)) [
+              | inl was ↦ inl (i, m.0, m.1, (pf.0, was))
+              | inr is ↦ inr (sym is.1)
+            ]
+
     pub taken_ahead : (moment : ℕ) → moment ≤ op.starts → AreAhead moment old → AreAhead moment new
     taken_ahead moment begins h i x e = record { ends = ends; forwards = forth }
       where
@@ -129,6 +148,20 @@ module _ {S W : Type 0} where
               let s : op.starts ≡ o.starts = ap (λ (z : Operation W). z.starts) is in omega (arith, l, s)
         ]
 
+-- the only one of these
+only_one : {X : Type 0} (xs : List X) (one : X) → xs ≡ one ∷ [] → (i : ℕ) (x : X) → slice_get xs i ≡ Some x → x ≡ one
+only_one xs one is i x e = by_place i (ap (λ zs. slice_get zs i) (sym is) ∙ e)
+  where
+    by_place : (j : ℕ) → slice_get (one ∷ []) j ≡ Some x → x ≡ one
+    by_place zero f = sym (same_Some one x f)
+    by_place (suc j) f = cc
+
+pub opened_as : {S W : Type 0} (opening : S) (held : List (Remainder S W)) (one : Remainder S W) → held ≡ one ∷ [] →
+    one.state ≡ opening → one.rest.items ≡ [] → AreOpenedAs opening held
+opened_as {S = S} {W = W} opening held one is is_state is_rest i x e =
+    let same = only_one held one is i x e in
+    (ap (λ (z : Remainder S W). z.state) same ∙ is_state, ap (λ (z : Remainder S W). z.rest.items) same ∙ is_rest)
+
 module _ {S W : Type 0} (after : S → W → Option S) where
   -- nothing has come yet
   pub watch_opened : (opening : S) (held : List (Remainder S W)) (one : Remainder S W) → held ≡ one ∷ [] → one.state ≡ opening →
@@ -139,11 +172,7 @@ module _ {S W : Type 0} (after : S → W → Option S) where
       some = let e = ap length is in omega (arith, e)
 
       only : (i : ℕ) (x : Remainder S W) → slice_get held i ≡ Some x → x ≡ one
-      only i x e = by_place i (ap (λ zs. slice_get zs i) (sym is) ∙ e)
-        where
-          by_place : (j : ℕ) → slice_get (one ∷ []) j ≡ Some x → x ≡ one
-          by_place zero f = sym (same_Some one x f)
-          by_place (suc j) f = cc
+      only i x e = only_one held one is i x e
 
       of : (o : Operation W) → IsOfOne held o → IsOneOfLog [] o
       of o (i, x, e, pf) =
@@ -322,7 +351,7 @@ module _ {S W : Type 0} (after : S → W → Option S) where
     watch_passed floor end old new w le h some = record {
       some = some;
       ahead = h.ahead;
-      of = λ o x. w.of o (h.of o x);
+      of = λ o x. w.of o (h.of.operations o x);
       goes = λ future last c. (
         λ x. (h.goes future last c).1 ((w.goes future last (comes last future c)).0 x),
         λ x. (w.goes future last (comes last future c)).1 ((h.goes future last c).0 x),

@@ -1,6 +1,6 @@
 -- What is left of a log: the operations that aren't placed (this project's own).
 use Rattle.std.specs.Prelude.{◌≡◌, ℕ, zero, suc, ◌+◌, ◌≤◌, nat_le, cond, List, [], ◌∷◌, ◌++◌, map, slice_get}
-use Rattle.std.specs.Prelude.{Option, None, Some}
+use Rattle.std.specs.Prelude.{◌⊎◌, Option, None, Some}
 use Rattle.object_core.specs.declared.operation.Operation.{Operation}
 use Rattle.object_core.specs.Logs.{IsLinearizable}
 use Rattle.object_sweep.specs.Rests.{RunForwards}
@@ -45,6 +45,23 @@ module _ {S W : Type 0} where
   -- it is an operation of one of these
   abbrev pub IsOfOne : List (Remainder S W) → Operation W → Type 0
   IsOfOne held o = (i : ℕ) × (one : Remainder S W) × (slice_get held i ≡ Some one) × IsOneOfLog one.rest.items o
+
+  -- an operation was added to each of these, or to none
+  pub record AreHeldWith (op : Operation W) (old new : List (Remainder S W)) : Type 0 where
+    pub states : (i : ℕ) (one : Remainder S W) → slice_get new i ≡ Some one →
+        (other : Remainder S W) × (slice_get old i ≡ Some other) × (one.state ≡ other.state)
+    pub operations : (o : Operation W) → IsOfOne new o → IsOfOne old o ⊎ (o ≡ op)
+
+module _ {S W : Type 0} (after : S → W → Option S) (held : List (Remainder S W)) where
+  -- the state of one of these, or a state to which operations of theirs lead from there
+  pub data IsLedTo : S → Type 0 where
+    Held : (i : ℕ) (one : Remainder S W) → slice_get held i ≡ Some one → IsLedTo one.state
+    Leads : (s t : S) (o : Operation W) → IsLedTo s → IsOfOne held o → after s o.what ≡ Some t → IsLedTo t
+
+  -- these hold no other states and operations
+  pub record AreLedTo (new : List (Remainder S W)) : Type 0 where
+    pub states : (i : ℕ) (one : Remainder S W) → slice_get new i ≡ Some one → IsLedTo one.state
+    pub operations : (o : Operation W) → IsOfOne new o → IsOfOne held o
 
 module _ {S W : Type 0} (after : S → W → Option S) (future : List (Operation W)) (last : ℕ) where
   -- from this state what is left has a lawful order with this future, as both are known at last

@@ -1,10 +1,10 @@
 -- A log that is watched as it comes: what is known of it at each moment (this project's own). What is lawful is so by
 -- M. Herlihy and J. Wing, Linearizability, ACM TOPLAS 12, 1990.
 use Rattle.std.specs.Prelude.{◌≡◌, ℕ, ◌+◌, ◌<◌, ◌≤◌, max, min, List, length, map, ◌++◌, Option, Some, IsSomeAnd}
-use Rattle.std.specs.Prelude.{◌↔◌}
+use Rattle.std.specs.Prelude.{◌↔◌, [], slice_get}
 use Rattle.object_core.specs.declared.operation.Operation.{Operation}
 use Rattle.object_core.specs.Logs.{IsLinearizable}
-use Rattle.object_watch.specs.Remainders.{AnyLawfulWith, AreAhead, ComesFrom, IsOneOfLog, IsOfOne, known}
+use Rattle.object_watch.specs.Remainders.{AnyLawfulWith, AreAhead, AreLedTo, ComesFrom, IsOneOfLog, IsOfOne, known}
 use Rattle.object_watch.specs.declared.remainder.Remainder.{Remainder}
 use Rattle.object_watch.specs.declared.watch.Ended.{Ended}
 use Rattle.object_watch.specs.declared.watch.Ended.TheVariants.{Lawful, Lost as EndedLost, TooMany as EndedTooMany}
@@ -35,6 +35,17 @@ module _ {S W : Type 0} where
   IsAheadOpen (Open watch) = AreAhead 0 watch.held.items
   IsAheadOpen (Lost at op) = Unit {0}
   IsAheadOpen (TooMany at) = Unit {0}
+
+  -- all that is held is this state, and no operation
+  abbrev pub AreOpenedAs : S → List (Remainder S W) → Type 0
+  AreOpenedAs opening held = (i : ℕ) (one : Remainder S W) → slice_get held i ≡ Some one →
+      (one.state ≡ opening) × (one.rest.items ≡ [])
+
+  -- nothing else is held than what was held leads to, if the log isn't lost
+  abbrev pub IsLedToOpen : (S → W → Option S) → List (Remainder S W) → Risen S W → Type 0
+  IsLedToOpen after held (Open watch) = AreLedTo after held watch.held.items
+  IsLedToOpen after held (Lost at op) = Unit {0}
+  IsLedToOpen after held (TooMany at) = Unit {0}
 
 module _ {S W : Type 0} (after : S → W → Option S) (opening : S) (log : List (Operation W)) where
   -- as it is known at this moment, the log has a lawful order: what ends later has no end yet

@@ -206,11 +206,15 @@ fn is_in_place_of<O: Object>(one: &Operation<O::What>, other: &Operation<O::What
         && ends_no_later(one.ends, other.ends)
 }
 
-/// Whether an earlier one of these that began by then may be placed for that at a place.
+/// Whether an earlier one of these may be placed for that at a place, where both began by then. Of many that wait most
+/// begin later.
 fn is_stood_for<O: Object>(end: u64, rest: &[Operation<O::What>], place: usize) -> bool
     requires { place < length rest.now }
     ensures { IsTrue result → HasStandIn O.after end rest.now place }
 {
+    if end < rest[place].starts {
+        return false;
+    }
     for i in 0..place {
         let one = &rest[i];
         if one.starts <= end && is_in_place_of::<O>(one, &rest[place]) {

@@ -57,7 +57,7 @@ pub(crate) fn pass_ends<O: Object>(
 ) -> Result<Passed<O, O::What>, AllocError>
     requires { AreAhead 0 held.items }
     ensures ahead { IfOk result (IsAheadPassed last) }
-    ensures of { IfOk result (IsOfPassed held.items) }
+    ensures of { IfOk result (IsOfPassed O.after held.items) }
     ensures passed { IfOk result (λ passed. (opening : O) (log : List (Operation O.What)) (moment : ℕ) →
         moment ≤ last + 1 → IsHeldOf O.after opening log moment held.items →
         ArePassed O.after opening log moment last passed) }

@@ -3,8 +3,9 @@
 ghost use Rattle.std.specs.Prelude.{◌≡◌, ◌↔◌, ◌<◌, ◌≤◌, ◌+◌, ◌++◌, ◌∷◌, [], ℕ, List, IfErr, IfOk};
 ghost use Rattle.std.specs.Prelude.{IsSomeAnd, IsTrue, OnOk, length};
 ghost use Rattle.object_core.specs.declared.operation.Operation.{Operation};
-ghost use Rattle.object_watch.specs.Remainders.{AreAhead};
-ghost use Rattle.object_watch.specs.Watches.{IsAheadOpen, IsVerdictOnAll, IsRisen, IsTakeFault, IsTimely, IsWatchOf};
+ghost use Rattle.object_watch.specs.Remainders.{AreAhead, AreHeldWith};
+ghost use Rattle.object_watch.specs.Watches.{AreOpenedAs, IsAheadOpen, IsLedToOpen, IsRisen, IsTakeFault, IsTimely};
+ghost use Rattle.object_watch.specs.Watches.{IsVerdictOnAll, IsWatchOf};
 ghost use Rattle.object_watch.specs.declared.watch.Risen.TheVariants.{Open};
 ghost use Rattle.object_watch.specs.inner.Levels.{AreTaken};
 
@@ -59,6 +60,7 @@ pub enum Ended<W> {
 pub fn open_watch<O: Object>(alloc: Global, opening: O) -> Result<Watch<O, O::What>, AllocError>
     ensures moment { IfOk result (λ watch. watch.moment ≡ 0) }
     ensures opened { IfOk result (IsWatchOf O.after opening []) }
+    ensures held { IfOk result (λ watch. AreOpenedAs opening watch.held.items) }
 {
     let mut held = Vec::with_capacity(alloc, 1)?;
     held.push(Remainder {
@@ -89,6 +91,7 @@ pub fn take<O: Object>(
     ensures ahead { OnOk result (AreAhead 0 watch.old.held.items → AreAhead 0 watch.new.held.items) }
     ensures taken { OnOk result ((opening : O) (log : List (Operation O.What)) →
         IsWatchOf O.after opening log watch.old → IsWatchOf O.after opening (log ++ op ∷ []) watch.new) }
+    ensures held { OnOk result (AreHeldWith op watch.old.held.items watch.new.held.items) }
     ensures fault { IfErr result (IsTakeFault op watch.old watch.new) }
 {
     if op.starts < watch.moment {
@@ -128,6 +131,7 @@ pub fn rise<O: Object>(
     requires { AreAhead 0 watch.held.items }
     ensures back { IfOk result (λ risen. last < watch.moment → risen ≡ Open watch) }
     ensures ahead { IfOk result IsAheadOpen }
+    ensures held { IfOk result (IsLedToOpen O.after watch.held.items) }
     ensures risen { IfOk result (λ risen. (opening : O) (log : List (Operation O.What)) →
         IsWatchOf O.after opening log watch → IsRisen O.after opening log watch last risen) }
 {

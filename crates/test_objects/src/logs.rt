@@ -249,8 +249,8 @@ fn budgets(rt: HostRuntime) {
 }
 
 /// Of eleven writes side by side more than 600 configurations are reached at the first end, which is that of place 1.
-/// Yet few that are held are enough to find that a read may have what the one that ended last left; that it may not
-/// have a record that none left, only all of them show.
+/// Yet few that are held are enough to find that a read may have what the one that ended last left, or one that ended
+/// in between; that it may not have a record that none left, only all of them show.
 #[test]
 fn few_configurations_are_enough(rt: HostRuntime) {
     let alloc = rt.alloc();
@@ -259,7 +259,12 @@ fn few_configurations_are_enough(rt: HostRuntime) {
     for k in 1..11 {
         log[k] = done(2, 50 + k as u64, Exchange::Sets(k as u64 + 1));
     }
-    for (seen, wanted) in [(1, Verdict::Lawful), (99, Verdict::TooMany { place: 1 })] {
+    let cases = [
+        (1, Verdict::Lawful),
+        (7, Verdict::Lawful),
+        (99, Verdict::TooMany { place: 1 }),
+    ];
+    for (seen, wanted) in cases {
         log[11] = done(200, 201, Exchange::Gets(seen));
         assert_eq!(rt;
             sweep(alloc, opening, &log, 600).ok(),

@@ -1,15 +1,14 @@
 -- An operation that a line of a watched log says runs forwards, as in a log whose records repeat.
-use Rattle.std.proofs.Common.{◌≡◌, ℕ, ◌≤◌, Bool, true, false, List, refl, ap, sym, ◌∙◌, subst, Option, Some, None, Result, Ok, Err, codes}
+use Rattle.std.proofs.Common.{◌≡◌, ℕ, ◌≤◌, Bool, true, false, List, refl, ap, ◌∙◌, Option, Some, None, Result, Ok, Err, codes}
 use Rattle.std.specs.Prelude.{IfOk, IfSome, if◌then◌else◌}
 use Rattle.serde_json.specs.Data.{Data}
 use Rattle.read_document.specs.declared.refusal.DocError.{DocError}
 use Rattle.read_document.specs.Document.{is_kind, value_of}
 use Rattle.read_document.specs.Refusals.{◌>>=◌, Gives}
-use Rattle.read_exchange.specs.Exchanges.{entry_in, entry_of, ExchangeEntry, KeyedExchange, operation}
+use Rattle.read_exchange.specs.Exchanges.{entry_in, entry_of, ExchangeEntry}
 use Rattle.read_exchange.specs.declared.line.ExchangeLine.TheVariants.{Operation, Refused, Done}
-use Rattle.read_exchange.specs.declared.line.ExchangeOp.{ExchangeOp}
 use Rattle.read_exchange.proofs.ForwardLemmas.{bound, false-true, forwards, ok_or}
-use Rattle.watch_lines.specs.WatchEntries.{blank, floor, floor_in, is_blank, IsForward, RunsForwards, said, watch_entry_in, watch_entry_of}
+use Rattle.watch_lines.specs.WatchEntries.{blank, floor, floor_in, is_blank, RunsForwards, said, watch_entry_in, watch_entry_of}
 use Rattle.watch_lines.specs.WatchEntries.{WatchEntry}
 use Rattle.watch_lines.specs.WatchEntries.{watched_seen}
 use Rattle.watch_lines.specs.declared.line.WatchLine.{WatchLine}

@@ -1,3 +1,6 @@
 pub mod LinedLemmas
+pub mod NamingLemmas
+pub mod KeptLemmas
+pub mod NumberLemmas
 pub mod ForwardLemmas
 pub mod WatcherLemmas

@@ -1,11 +1,11 @@
 -- The orders of a log are lawful exactly if they are so without the lines of its operations.
-use Rattle.std.proofs.Common.{◌≡◌, ℕ, zero, suc, ◌<◌, List, [], ◌∷◌, map, refl, ap, sym, ◌∙◌, subst, slice_get, Option, Some, None}
+use Rattle.std.proofs.Common.{◌≡◌, ℕ, zero, suc, List, [], ◌∷◌, map, refl, ap, sym, ◌∙◌, subst, slice_get, Option, Some, None}
 use Rattle.std.proofs.Common.{option_map}
 use Rattle.std.specs.Prelude.{◌↔◌}
 use Rattle.std.proofs.lemmas.Option.{none-some, same_Some, slice_get-map}
 use Rattle.history_core.specs.Orders.{times_of}
 use Rattle.object_core.specs.declared.operation.Operation.{Operation}
-use Rattle.object_core.specs.Logs.{CanMake, IsLawfulOrder, IsLinearizable, IsListing, is_due, KeepsPrecedence, MayStand, NonePrecedes}
+use Rattle.object_core.specs.Logs.{CanMake, IsLinearizable, IsListing, is_due, KeepsPrecedence, MayStand, NonePrecedes}
 use Rattle.object_core.specs.Logs.{Precedes}
 use Rattle.object_registers.specs.declared.exchanging.Exchange.{Exchange}
 use Rattle.object_registers.specs.declared.exchanging.Exchanging.{Exchanging}
@@ -15,10 +15,10 @@ use Rattle.watch_lines.specs.declared.lined.Lined.{Lined}
 use Rattle.watch_lines.specs.declared.lined.LinedRegister.{LinedRegister}
 
 module _ {X Y : Type 0} (f : X → Y) where
-  at_map : (xs : List X) (i : ℕ) (x : X) → slice_get xs i ≡ Some x → slice_get (map f xs) i ≡ Some (f x)
+  pub at_map : (xs : List X) (i : ℕ) (x : X) → slice_get xs i ≡ Some x → slice_get (map f xs) i ≡ Some (f x)
   at_map xs i x e = slice_get-map f xs i ∙ ap (option_map f) e
 
-  of_map : (xs : List X) (i : ℕ) (y : Y) → slice_get (map f xs) i ≡ Some y → (x : X) × (slice_get xs i ≡ Some x) × (f x ≡ y)
+  pub of_map : (xs : List X) (i : ℕ) (y : Y) → slice_get (map f xs) i ≡ Some y → (x : X) × (slice_get xs i ≡ Some x) × (f x ≡ y)
   of_map [] i y e = absurd (none-some y e)
   of_map (z ∷ xs) zero y e = (z, refl, same_Some (f z) y e)
   of_map (z ∷ xs) (suc i) y e = of_map xs i y e
@@ -28,7 +28,7 @@ pub made : (found : Option Exchanging) (t : LinedRegister) → option_map lined 
 made None t e = absurd (none-some t e)
 made (Some r) t e = ap (λ (u : LinedRegister). Some u.register) (same_Some (lined r) t e)
 
-makes : (found : Option Exchanging) (t : Exchanging) → found ≡ Some t → option_map lined found ≡ Some (lined t)
+pub makes : (found : Option Exchanging) (t : Exchanging) → found ≡ Some t → option_map lined found ≡ Some (lined t)
 makes found t e = ap (option_map lined) e
 
 listing_bare : (log : List (Operation Lined)) (order : List ℕ) → IsListing log order → IsListing (map without_line log) order

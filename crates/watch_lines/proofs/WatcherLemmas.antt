@@ -1,37 +1,42 @@
 -- What a line comes to: an operation more, a floor, and the end.
-use Rattle.std.proofs.Common.{◌≡◌, ◌≢◌, ℕ, ◌+◌, ◌-◌, ◌^◌, ◌<◌, ◌≤◌, List, [], ◌∷◌, ◌++◌, length, map, refl, ap, sym, ◌∙◌, subst, arith}
-use Rattle.std.proofs.Common.{Bool, true, false, cond, Option, Some, None, Result, Ok, Err, inr, length-append, max, min, option_map}
+use Rattle.std.proofs.Common.{◌≡◌, ◌≢◌, ℕ, ◌+◌, ◌-◌, ◌^◌, ◌<◌, ◌≤◌, List, [], ◌∷◌, ◌++◌, length, refl, ap, sym, ◌∙◌, subst, arith}
+use Rattle.std.proofs.Common.{Bool, true, false, cond, Option, Some, None, Result, Ok, Err, inl, inr, length-append, max, min, option_map}
+use Rattle.std.proofs.Common.{slice_get}
 use Rattle.std.proofs.Common.{string_bytes}
 use Rattle.std.specs.Prelude.{count_by, is_none, is_some, nat_lt}
 use Rattle.std.proofs.lemmas.Bool.Decides.{nat_tests}
 use Rattle.std.proofs.lemmas.List.{map-append}
 use Rattle.std.proofs.lemmas.List.Sums.{sum_by-append, sum_by-cons}
-use Rattle.std.proofs.lemmas.Option.{same_Some}
 use Rattle.object_core.specs.declared.operation.Operation.{Operation}
 use Rattle.object_registers.specs.declared.exchanging.Exchange.{Exchange}
-use Rattle.object_watch.specs.Watches.{AreTooManyAt, IsVerdictOnAll, IsLawfulBetween, IsFirstLost, IsRisen, IsWatchOf, last_moment}
-use Rattle.object_watch.specs.declared.watch.Ended.{Ended}
+use Rattle.object_watch.specs.Watches.{AreOpenedAs, AreTooManyAt, IsVerdictOnAll, IsLawfulBetween, IsFirstLost, IsRisen, IsWatchOf}
+use Rattle.object_watch.specs.Watches.{last_moment}
 use Rattle.object_watch.specs.declared.watch.Ended.TheVariants as ended
 use Rattle.object_watch.specs.declared.watch.Risen.{Risen}
 use Rattle.object_watch.specs.declared.watch.Risen.TheVariants.{Open, Lost as LostThen, TooMany}
 use Rattle.object_watch.specs.declared.watch.Watch.{Watch}
+use Rattle.object_watch.specs.Remainders.{AreHeldWith, AreLedTo}
 use Rattle.program_runs.specs.declared.fault.Fault.TheVariants.{Undecided}
-use Rattle.read_line.specs.Numberings.{AreDistinct, IsNumbering}
-use Rattle.read_line.specs.declared.numbering.Numbering.{Numbering}
 use Rattle.read_exchange.specs.Exchanges.{exchange_seen, keyed_seen, KeyedExchange, operation}
 use Rattle.read_exchange.specs.declared.line.ExchangeOp.{ExchangeOp}
 use Rattle.exchanges_log.specs.ExchangeLogs.{is_uncertain, uncertain_in, unfinished_in}
-use Rattle.exchanges_log.specs.ExchangeNumbers.{IsOperationNow}
+use Rattle.watch_lines.specs.Kept.{Forgets, IsHeldRecord, IsKeptNumber, IsKeptAlone}
 use Rattle.watch_lines.specs.Lined.{lined_after, lined_op, without_line}
+use Rattle.watch_lines.specs.Namings.{IsNamedExchange, log_by, Naming, op_by}
 use Rattle.watch_lines.specs.Seen.{bare, below, counts_of, fault_by, fault_of, has_key, HasOperation, higher, key_with, moment_of}
+use Rattle.watch_lines.specs.Seen.{opened_with}
 use Rattle.watch_lines.specs.Seen.{LinesSeen}
 use Rattle.watch_lines.specs.Seen.{with_floor}
-use Rattle.watch_lines.specs.Steps.{EndsAs, opened}
+use Rattle.watch_lines.specs.Steps.{EndsAs, IsLawfulTo, opened}
 use Rattle.watch_lines.specs.WatchEntries.{floor, said, watch_entry_of}
-use Rattle.watch_lines.specs.Watchers.{IsRisenBefore, Knows, KnowsIf, RisesNow, TakesEntry, TakesLine, TakesOperation}
+use Rattle.watch_lines.specs.Watchers.{IsRisenBefore, Knows, KnowsIf, KnowsLess, RisesNow, TakesEntry, TakesLine, TakesOperation}
 use Rattle.watch_lines.specs.inner.CountsOne.{CountsOne}
+use Rattle.watch_lines.proofs.NamingLemmas.{more_by, of_led, of_with, renamed, told_between, told_beyond, told_lawful, told_lost}
+use Rattle.watch_lines.proofs.NamingLemmas.{told_unlawful}
+use Rattle.watch_lines.proofs.NumberLemmas.{kept_alone, opening_stays, same_naming}
 use Rattle.watch_lines.specs.declared.lined.Lined.{Lined}
 use Rattle.watch_lines.specs.declared.lined.LinedRegister.{LinedRegister}
+use Rattle.watch_lines.specs.declared.records.Records.{Records}
 use Rattle.watch_lines.specs.declared.told.Counts.{Counts}
 use Rattle.watch_lines.specs.declared.told.Floor.{Floor}
 use Rattle.watch_lines.specs.declared.told.Told.{Told}
@@ -64,33 +69,113 @@ risen_same log from to other risen same e f h =
     let P : ℕ → Type 0 = λ m. IsRisenBefore log from m risen in
     let Q : Risen LinedRegister Lined → Type 0 = λ r. IsRisenBefore log from other r in subst Q f (subst P e h)
 
-pub rises_open : (s : LinesSeen) (w : Watcher) (watch : Watch LinedRegister Lined) (high : Option Floor) → Knows s w →
-    IsRisenBefore s.log w.watch.moment (moment_of high) (Open watch) →
-    RisesNow s high (GoesOn (record w { watch = watch; high = high }))
-rises_open s w watch high k h = (
+-- the opening's number is 0 for the watch, too
+stays : (s : LinesSeen) (w : Watcher) (k : Knows s w) → k.follows.naming.to 0 ≡ 0
+stays s w k = opening_stays s.records k.follows.naming w.records k.follows.records
+
+-- what is known of a log where the floor rose
+pub rises_open : (s : LinesSeen) (w : Watcher) (watch : Watch LinedRegister Lined) (high : Option Floor) (k : Knows s w) →
+    AreLedTo lined_after w.watch.held.items watch.held.items →
+    IsRisenBefore (log_by k.follows.naming.to s.log) w.watch.moment (moment_of high) (Open watch) →
+    Knows (record s { high = high }) (record w { watch = watch; high = high }) × IsLawfulTo s.log (moment_of s.high) (moment_of high)
+rises_open s w watch high k led h = (
   record {
     lines = k.lines;
-    numbering = k.numbering;
-    watch = h.1;
+    follows = record {
+      naming = k.follows.naming;
+      records = k.follows.records;
+      held = of_led (IsKeptNumber w.records) w.watch.held.items k.follows.held watch.held.items led;
+      is = h.1;
+    };
     moment = h.0;
     key = k.key;
     high = refl;
     counts = k.counts;
     ended = k.ended;
   },
-  λ less. subst (λ (m : ℕ). IsLawfulBetween lined_after opened s.log m (moment_of high)) k.moment h.2,
+  λ less. told_between k.follows.naming (stays s w k) s.log (moment_of s.high) (moment_of high)
+      (subst (λ (m : ℕ). IsLawfulBetween lined_after opened (log_by k.follows.naming.to s.log) m (moment_of high)) k.moment h.2),
 )
 
-pub rises_lost : (s : LinesSeen) (w : Watcher) (high : Option Floor) (at : ℕ) (op : Operation Lined) → Knows s w →
-    IsRisenBefore s.log w.watch.moment (moment_of high) (LostThen at op) → RisesNow s high (Stops (Ok (Lost at op.what.line)))
-rises_lost s w high at op k h =
-    (h.0, (op, subst (λ (m : ℕ). IsFirstLost lined_after opened s.log m at op) k.moment h.1, refl))
+-- and of which less is kept then
+pub rises_less : (s : LinesSeen) (high : Option Floor) (step : Step) → IsLawfulTo s.log (moment_of s.high) (moment_of high) →
+    KnowsLess (record s { high = high }) step → RisesNow s high step
+rises_less s high (GoesOn w) lawful k = (k, lawful)
+rises_less s high (Stops reply) lawful is =
+    let P : Result Told WatchFault → Type 0 = λ r. RisesNow s high (Stops r) in subst P (sym is) (λ other. absurd (other refl))
 
-pub rises_beyond : (s : LinesSeen) (w : Watcher) (high : Option Floor) (at : ℕ) → Knows s w →
-    IsRisenBefore s.log w.watch.moment (moment_of high) (TooMany at) →
+pub rises_lost : (s : LinesSeen) (w : Watcher) (high : Option Floor) (at : ℕ) (op : Operation Lined) (k : Knows s w) →
+    IsRisenBefore (log_by k.follows.naming.to s.log) w.watch.moment (moment_of high) (LostThen at op) →
+    RisesNow s high (Stops (Ok (Lost at op.what.line)))
+rises_lost s w high at op k h =
+    let x = told_lost k.follows.naming (stays s w k) s.log w.watch.moment at op h.1 in
+    (h.0, (x.0, subst (λ (m : ℕ). IsFirstLost lined_after opened s.log m at x.0) k.moment x.1, x.2))
+
+pub rises_beyond : (s : LinesSeen) (w : Watcher) (high : Option Floor) (at : ℕ) (k : Knows s w) →
+    IsRisenBefore (log_by k.follows.naming.to s.log) w.watch.moment (moment_of high) (TooMany at) →
     RisesNow s high (Stops (Err (Refused (Undecided w.lines))))
-rises_beyond s w high at k h = λ other.
-    (ap Undecided k.lines, at, h.0, subst (λ (m : ℕ). AreTooManyAt lined_after opened s.log m at) k.moment h.1)
+rises_beyond s w high at k h = λ other. (
+  ap Undecided k.lines,
+  at,
+  h.0,
+  subst (λ (m : ℕ). AreTooManyAt lined_after opened s.log m at) k.moment
+      (told_beyond k.follows.naming (stays s w k) s.log w.watch.moment at h.1),
+)
+
+-- ---- what is kept
+
+-- behind a header
+pub knows_opened : (opening : List ℕ) (w : Watcher) → w.lines ≡ 1 → IsKeptAlone opening w.records →
+    IsWatchOf lined_after opened [] w.watch →
+    w.watch.moment ≡ 0 → AreOpenedAs opened w.watch.held.items → w.key ≡ None → w.high ≡ None →
+    w.counts ≡ record { ops = 0; unfinished = 0; uncertain = 0; floors = 0 } → w.ended ≡ None → Knows (opened_with opening) w
+knows_opened opening w lines records watch moment held key high counts ended = record {
+  lines = lines;
+  follows = record {
+    naming = same_naming;
+    records = kept_alone opening w.records records;
+    held = λ n is. (opening, records.known ∙ ap Some (sym (none n is)));
+    is = watch;
+  };
+  moment = moment;
+  key = ap (option_map (option_map string_bytes)) key;
+  high = high;
+  counts = counts;
+  ended = ended;
+}
+  where
+    none : (n : ℕ) → IsHeldRecord w.watch.held.items n → n ≡ 0
+    none n (i, one, e, inl is) = is ∙ ap (λ (z : LinedRegister). z.register.held) (held i one e).0
+    none n (i, one, e, inr (o, l, names)) =
+        let at : slice_get [] l.0 ≡ Some o = ap (λ zs. slice_get zs l.0) (sym (held i one e).1) ∙ l.1 in cc
+
+-- what nothing held names is forgotten
+pub knows_less : (s : LinesSeen) (w : Watcher) (less : Records) → Knows s w → Forgets w.watch.held.items w.records less →
+    Knows s (record w { records = less })
+knows_less s w less k forgets = record {
+  lines = k.lines;
+  follows = record {
+    naming = k.follows.naming;
+    records = record {
+      found = λ text n e. k.follows.records.found text n (forgets.was text n e);
+      below = λ text n e.
+          (let l = k.follows.records.below text n (forgets.was text n e) in let same = forgets.next in omega (arith, l, same));
+      opening = (
+        k.follows.records.opening.0,
+        k.follows.records.opening.1,
+        forgets.stays k.follows.records.opening.0 0 k.follows.records.opening.2 (inl refl),
+      );
+      distinct = k.follows.records.distinct;
+    };
+    held = λ n is. (let kept = k.follows.held n is in (kept.0, forgets.stays kept.0 n kept.1 (inr is)));
+    is = k.follows.is;
+  };
+  moment = k.moment;
+  key = k.key;
+  high = k.high;
+  counts = k.counts;
+  ended = k.ended;
+}
 
 -- ---- a floor
 
@@ -118,8 +203,7 @@ pub knows_floored : (s : LinesSeen) (w : Watcher) (line floors : ℕ) → Knows 
     Knows (floored s) (record w { lines = line; counts = record w.counts { floors = floors } })
 knows_floored s w line floors k next more = record {
   lines = next;
-  numbering = k.numbering;
-  watch = k.watch;
+  follows = k.follows;
   moment = k.moment;
   key = k.key;
   high = k.high;
@@ -139,8 +223,7 @@ knows_any s w line floors k more =
     let known = knows_floored s w (s.lines + 1) floors k refl more in
     record {
       lines = refl;
-      numbering = k.numbering;
-      watch = k.watch;
+      follows = k.follows;
       moment = k.moment;
       key = k.key;
       high = k.high;
@@ -160,9 +243,6 @@ below_high (Some f) at line = by_test (nat_lt f.at at) refl
     by_test false e = rw e (omega arith)
 
 -- ---- an operation
-
-distinct : (s : List (List ℕ)) (numbers : Numbering) → IsNumbering s numbers → AreDistinct s
-distinct s numbers is = λ text m n at_m at_n. same_Some m n (sym (is.known text m at_m) ∙ is.known text n at_n)
 
 one_more : (p : Operation Exchange → Bool) (log : List (Operation Lined)) (o : Operation Exchange) (line : ℕ) →
     count_by p (bare (log ++ lined_op o line ∷ [])) ≡ count_by p (bare log) + cond (p o) 1 0
@@ -192,37 +272,58 @@ counts_more s c now o t line is one log floors =
     ∙ (ap (λ (n : ℕ). make (length t.log) (unfinished_in (bare t.log)) n now.floors) uncertain
     ∙ ap (λ (n : ℕ). make (length t.log) (unfinished_in (bare t.log)) (uncertain_in (bare t.log)) n) all))
 
-pub pushed : (s : LinesSeen) (old new : Watcher) (o : ExchangeOp) (next : Operation Exchange) (line : ℕ) → Knows s old →
+-- an operation is counted as it is by any numbers
+counts_by : (f : ℕ → ℕ) (c now : Counts) (o : Operation Exchange) → CountsOne c o now → CountsOne c (op_by f o) now
+counts_by f c now o one = record { ops = one.ops; unfinished = one.unfinished; uncertain = one.uncertain; floors = one.floors }
+
+pub pushed : (s : LinesSeen) (old new : Watcher) (o : ExchangeOp) (next : Operation Exchange) (line : ℕ) (k : Knows s old) →
     line ≡ s.lines + 1 →
-    IsOperationNow s.records (exchange_seen o) new.numbering next → CountsOne old.counts next new.counts →
-    new.watch.moment ≡ old.watch.moment → IsWatchOf lined_after opened (s.log ++ lined_op next line ∷ []) new.watch →
+    IsNamedExchange s.records k.follows.naming old.records (exchange_seen o) new.records next → CountsOne old.counts next new.counts →
+    new.watch.moment ≡ old.watch.moment →
+    ((log : List (Operation Lined)) → IsWatchOf lined_after opened log old.watch →
+    IsWatchOf lined_after opened (log ++ lined_op next line ∷ []) new.watch) →
+    AreHeldWith (lined_op next line) old.watch.held.items new.watch.held.items →
     option_map (option_map string_bytes) new.key
     ≡ key_with (option_map (option_map string_bytes) old.key) (option_map string_bytes o.key) →
     new.lines ≡ line → new.high ≡ old.high → new.ended ≡ old.ended → (t : LinesSeen) × HasOperation s (keyed_seen o) t × Knows t new
-pushed s old new o next line k here now counts moment watch key lines high ended =
+pushed s old new o next line k here got counts moment watch with key lines high ended =
+    let now : Naming = got.named.now in
+    let said : Operation Lined = lined_op (op_by now.from next) line in
     let t : LinesSeen = record s {
       lines = s.lines + 1;
-      records = now.after;
-      log = s.log ++ lined_op next line ∷ [];
+      records = got.named.after;
+      log = s.log ++ said ∷ [];
       key = key_with s.key (option_map string_bytes o.key);
-    } in (
+    } in
+    let again : IsWatchOf lined_after opened (log_by now.to s.log) old.watch =
+    renamed k.follows.naming now (opening_stays s.records k.follows.naming old.records k.follows.records)
+    (opening_stays got.named.after now new.records got.named.kept) s.log old.watch.moment old.watch.held.items
+    (λ n is. got.named.same n (k.follows.held n is)) k.follows.is in (
       t,
       record {
-        op = lined_op next line;
-        is = now.is;
+        op = said;
+        is = got.is;
         line = here;
-        grow = now.grow;
-        distinct = distinct now.after new.numbering now.numbers;
+        grow = got.named.grow;
+        distinct = got.named.kept.distinct;
         made = refl;
       },
       record {
         lines = lines ∙ here;
-        numbering = now.numbers;
-        watch = watch;
+        follows = record {
+          naming = now;
+          records = got.named.kept;
+          held = of_with (IsKeptNumber new.records) old.watch.held.items
+              (λ n is. (let kept = k.follows.held n is in (kept.0, got.named.stay kept.0 n kept.1))) (lined_op next line)
+              new.watch.held.items with got.names;
+          is = subst (λ (zs : List (Operation Lined)). IsWatchOf lined_after opened zs new.watch)
+              (sym (more_by now s.log (lined_op next line))) (watch (log_by now.to s.log) again);
+        };
         moment = moment ∙ k.moment;
         key = key ∙ ap (λ (all : Option (Option (List ℕ))). key_with all (option_map string_bytes o.key)) k.key;
         high = high ∙ k.high;
-        counts = counts_more s old.counts new.counts next t line k.counts counts refl refl;
+        counts = counts_more s old.counts new.counts (op_by now.from next) t line k.counts
+            (counts_by now.from old.counts new.counts next counts) refl refl;
         ended = ended ∙ k.ended;
       },
     )
@@ -244,19 +345,29 @@ takes_operation s o (Stops reply) before all above h =
 
 -- ---- the end of the input
 
-pub ends_lawful : (s : LinesSeen) (w : Watcher) → Knows s w → IsVerdictOnAll lined_after opened s.log w.watch ended.Lawful →
+pub ends_lawful : (s : LinesSeen) (w : Watcher) (k : Knows s w) →
+    IsVerdictOnAll lined_after opened (log_by k.follows.naming.to s.log) w.watch ended.Lawful →
     EndsAs s (Ok (Lawful w.counts (is_some w.ended)))
-ends_lawful s w k h = (h, k.counts, ap is_some k.ended)
+ends_lawful s w k h =
+    (told_lawful k.follows.naming (stays s w k) s.log h, k.counts, ap is_some k.ended)
 
-pub ends_lost : (s : LinesSeen) (w : Watcher) (at : ℕ) (op : Operation Lined) → Knows s w →
-    IsVerdictOnAll lined_after opened s.log w.watch (ended.Lost at op) → EndsAs s (Ok (Lost at op.what.line))
+pub ends_lost : (s : LinesSeen) (w : Watcher) (at : ℕ) (op : Operation Lined) (k : Knows s w) →
+    IsVerdictOnAll lined_after opened (log_by k.follows.naming.to s.log) w.watch (ended.Lost at op) →
+    EndsAs s (Ok (Lost at op.what.line))
 ends_lost s w at op k h =
-    ((op, subst (λ (m : ℕ). IsFirstLost lined_after opened s.log m at op) k.moment h.0, refl), h.1)
+    let x = told_lost k.follows.naming (stays s w k) s.log w.watch.moment at op h.0 in
+    let first = subst (λ (m : ℕ). IsFirstLost lined_after opened s.log m at x.0) k.moment x.1 in
+    ((x.0, first, x.2), told_unlawful k.follows.naming (stays s w k) s.log h.1)
 
-pub ends_beyond : (s : LinesSeen) (w : Watcher) (at : ℕ) → Knows s w → IsVerdictOnAll lined_after opened s.log w.watch (ended.TooMany at) →
+pub ends_beyond : (s : LinesSeen) (w : Watcher) (at : ℕ) (k : Knows s w) →
+    IsVerdictOnAll lined_after opened (log_by k.follows.naming.to s.log) w.watch (ended.TooMany at) →
     EndsAs s (Err (Refused (Undecided w.lines)))
-ends_beyond s w at k h =
-    (ap Undecided k.lines, at, subst (λ (m : ℕ). AreTooManyAt lined_after opened s.log m at) k.moment h)
+ends_beyond s w at k h = (
+  ap Undecided k.lines,
+  at,
+  subst (λ (m : ℕ). AreTooManyAt lined_after opened s.log m at) k.moment
+      (told_beyond k.follows.naming (stays s w k) s.log w.watch.moment at h),
+)
 
 -- ---- a line, behind the header
 

@@ -1,4 +1,6 @@
+pub mod Kept
 pub mod Lined
+pub mod Namings
 pub mod Replies
 pub mod Seen
 pub mod Steps

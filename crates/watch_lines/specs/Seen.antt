@@ -1,12 +1,12 @@
 -- What the lines so far of a log that is watched say (this project's own).
-use Rattle.std.specs.Prelude.{◌≡◌, ℕ, ◌+◌, ◌∷◌, [], ◌++◌, List, length, map, max, nat_lt, Bool, true, false}
+use Rattle.std.specs.Prelude.{◌≡◌, ℕ, ◌+◌, ◌∷◌, [], ◌++◌, List, length, map, nat_lt, Bool, true}
 use Rattle.std.specs.Prelude.{if◌then◌else◌}
-use Rattle.std.specs.Prelude.{slice_get, Option, None, Some, is_some, ◌==◌, Result, Ok, Err}
+use Rattle.std.specs.Prelude.{Option, None, Some, ◌==◌, Result, Ok, Err}
 use Rattle.std.specs.Option.{option_map_or}
 use Rattle.object_core.specs.declared.operation.Operation.{Operation}
 use Rattle.object_registers.specs.declared.exchanging.Exchange.{Exchange}
 use Rattle.read_document.specs.declared.refusal.DocError.{DocError}
-use Rattle.read_document.specs.declared.refusal.DocError.TheVariants.{Law, Missing, NotJson, Shape}
+use Rattle.read_document.specs.declared.refusal.DocError.TheVariants.{Law, Missing, Shape}
 use Rattle.read_document.specs.declared.key.Key.TheVariants as key
 use Rattle.read_line.specs.Numberings.{AreDistinct}
 use Rattle.lines_log.specs.Faults.{refused_at}

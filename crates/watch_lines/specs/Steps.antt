@@ -5,16 +5,14 @@ use Rattle.object_core.specs.declared.operation.Operation.{Operation}
 use Rattle.object_core.specs.Logs.{IsLinearizable}
 use Rattle.object_watch.specs.Watches.{AreTooManyAt, IsLawfulBetween, IsFirstLost}
 use Rattle.program_runs.specs.declared.fault.Fault.TheVariants.{Undecided}
-use Rattle.program_runs.specs.declared.fault.Fault.{Fault}
 use Rattle.read_document.specs.declared.refusal.DocError.{DocError}
 use Rattle.read_document.specs.declared.refusal.DocError.TheVariants.{NotJson}
 use Rattle.read_exchange.specs.Headers.{exchange_head_of}
-use Rattle.watch_lines.specs.Lined.{lined, lined_after}
+use Rattle.watch_lines.specs.Lined.{lined_after}
 use Rattle.watch_lines.specs.Seen.{counts_of, fault_of, HasLine, moment_of, opened_with, refusal_at, LinesSeen}
 use Rattle.watch_lines.specs.WatchEntries.{watch_entry_of, WatchEntry}
 use Rattle.watch_lines.specs.declared.lined.Lined.{Lined}
 use Rattle.watch_lines.specs.declared.lined.LinedRegister.{LinedRegister}
-use Rattle.watch_lines.specs.declared.told.Counts.{Counts}
 use Rattle.watch_lines.specs.declared.told.Told.{Told}
 use Rattle.watch_lines.specs.declared.told.Told.TheVariants.{Lawful, Lost}
 use Rattle.watch_lines.specs.declared.told.WatchFault.{WatchFault}

@@ -2,13 +2,15 @@
 use Rattle.std.specs.Prelude.{◌≡◌, ℕ, ◌<◌, List, option_map, Option, None, Some, Result, Err, string_bytes}
 use Rattle.object_core.specs.declared.operation.Operation.{Operation}
 use Rattle.object_watch.specs.Watches.{AreTooManyAt, IsLawfulBetween, IsFirstLost, IsWatchOf}
+use Rattle.object_watch.specs.declared.watch.Watch.{Watch}
 use Rattle.object_watch.specs.declared.watch.Risen.{Risen}
 use Rattle.object_watch.specs.declared.watch.Risen.TheVariants.{Open, Lost, TooMany}
 use Rattle.program_runs.specs.declared.fault.Fault.TheVariants.{NoMemory}
 use Rattle.read_exchange.specs.Exchanges.{KeyedExchange}
 use Rattle.read_document.specs.declared.refusal.DocError.{DocError}
-use Rattle.read_line.specs.Numberings.{IsNumbering}
+use Rattle.watch_lines.specs.Kept.{IsHeldRecord, IsKeptNumber}
 use Rattle.watch_lines.specs.Lined.{lined_after}
+use Rattle.watch_lines.specs.Namings.{AreKeptNumbers, log_by, Naming}
 use Rattle.watch_lines.specs.Replies.{TellsIf}
 use Rattle.watch_lines.specs.Seen.{counts_of, HasOperation, moment_of, LinesSeen}
 use Rattle.watch_lines.specs.Steps.{ComesTo, goes_on, IsLawfulTo, IsStep, opened, RisesTo, stops}
@@ -17,14 +19,22 @@ use Rattle.watch_lines.specs.declared.lined.Lined.{Lined}
 use Rattle.watch_lines.specs.declared.lined.LinedRegister.{LinedRegister}
 use Rattle.watch_lines.specs.declared.told.Floor.{Floor}
 use Rattle.watch_lines.specs.declared.told.WatchFault.TheVariants.{Refused}
+use Rattle.watch_lines.specs.declared.records.Records.{Records}
 use Rattle.watch_lines.specs.declared.watcher.Step.{Step}
 use Rattle.watch_lines.specs.declared.watcher.Step.TheVariants.{GoesOn, Stops}
 use Rattle.watch_lines.specs.declared.watcher.Watcher.{Watcher}
 
+-- a watch follows this log, whose operations name these records: of each record that it holds a number is kept
+pub record FollowsLog (all : List (List ℕ)) (log : List (Operation Lined)) (kept : Records)
+    (watch : Watch LinedRegister Lined) : Type 0 where
+  pub naming : Naming
+  pub records : AreKeptNumbers all naming kept
+  pub held : (n : ℕ) → IsHeldRecord watch.held.items n → IsKeptNumber kept n
+  pub is : IsWatchOf lined_after opened (log_by naming.to log) watch
+
 pub record Knows (s : LinesSeen) (w : Watcher) : Type 0 where
   pub lines : w.lines ≡ s.lines
-  pub numbering : IsNumbering s.records w.numbering
-  pub watch : IsWatchOf lined_after opened s.log w.watch
+  pub follows : FollowsLog s.records s.log w.records w.watch
   pub moment : w.watch.moment ≡ moment_of s.high
   pub key : option_map (option_map string_bytes) w.key ≡ s.key
   pub high : w.high ≡ s.high
@@ -58,6 +68,11 @@ IsRisenBefore log from to (Open watch) =
     (watch.moment ≡ to) × IsWatchOf lined_after opened log watch × IsLawfulBetween lined_after opened log from to
 IsRisenBefore log from to (Lost at op) = (at < to) × IsFirstLost lined_after opened log from at op
 IsRisenBefore log from to (TooMany at) = (at < to) × AreTooManyAt lined_after opened log from at
+
+-- the records that nothing held names are forgotten, unless memory ran out
+abbrev pub KnowsLess : LinesSeen → Step → Type 0
+KnowsLess s (GoesOn w) = Knows s w
+KnowsLess s (Stops reply) = reply ≡ Err (Refused NoMemory)
 
 -- the floor rises
 abbrev pub RisesNow : LinesSeen → Option Floor → Step → Type 0

@@ -2,8 +2,8 @@
 ghost use Rattle.std.specs.Prelude.{◌≡◌, ◌+◌, ◌<◌, ◌≤◌, ◌++◌, ◌∷◌, [], List, Result, Ok, Option, None, Some};
 ghost use Rattle.std.specs.Prelude.{IfOk, IfSome, OnOk, option_map, string_bytes};
 ghost use Rattle.object_core.specs.declared.operation.Operation.{Operation};
-ghost use Rattle.object_watch.specs.Remainders.{AreAhead};
-ghost use Rattle.object_watch.specs.Watches.{IsWatchOf};
+ghost use Rattle.object_watch.specs.Remainders.{AreAhead, AreHeldWith};
+ghost use Rattle.object_watch.specs.Watches.{IsLedToOpen, IsWatchOf};
 ghost use Rattle.read_document.specs.Refusals.{Gives};
 ghost use Rattle.read_document.specs.declared.refusal.DocError.{DocError};
 ghost use Rattle.read_exchange.specs.Exchanges.{done, keyed_seen, operation, refused};
@@ -15,13 +15,14 @@ ghost use Rattle.watch_lines.specs.Steps.{EndsAs, IsLastAnswer, opened};
 ghost use Rattle.watch_lines.specs.WatchEntries.{floor, IsForward, RunsForwards, said, watch_entry_of, watched_seen};
 ghost use Rattle.watch_lines.specs.WatchEntries.{WatchEntry};
 ghost use Rattle.watch_lines.specs.declared.lined.Lined.{Lined};
-ghost use Rattle.watch_lines.specs.Watchers.{IsRisenBefore, Knows, KnowsIf, RisesNow, TakesEntry, TakesLine};
-ghost use Rattle.watch_lines.specs.Watchers.{TakesOperation};
+ghost use Rattle.watch_lines.specs.Watchers.{IsRisenBefore, Knows, KnowsIf, KnowsLess, RisesNow, TakesEntry};
+ghost use Rattle.watch_lines.specs.Watchers.{TakesLine, TakesOperation};
 
 use crate::line::{WatchLine, read_watched};
 use crate::lined::{Lined, LinedRegister};
+use crate::number::number_op;
+use crate::records::Records;
 use crate::told::{Counts, Floor, Told, WatchFault};
-use exchanges_log::number_op;
 use lines_log::{refused_at, same_key};
 use object_core::Operation;
 use object_registers::{Exchange, Exchanging};
@@ -29,7 +30,6 @@ use object_watch::{Ended, Risen, Watch, WatchError, finish, open_watch, rise, ta
 use program_runs::Fault;
 use read_document::{DocError, Key};
 use read_exchange::{ExchangeLine, ExchangeOp, read_exchange_header};
-use read_line::Numbering;
 use std::alloc::{AllocError, Global};
 
 /// The line of the header.
@@ -43,7 +43,7 @@ const NO_MEMORY: WatchFault = WatchFault::Refused(Fault::NoMemory);
 pub struct Watcher {
     /// How many lines were read, the header among them.
     lines: usize,
-    numbering: Numbering,
+    records: Records,
     watch: Watch<LinedRegister, Lined>,
     /// The key of each operation, once there is one.
     key: Option<Option<String>>,
@@ -68,10 +68,10 @@ impl Watcher {
     {
         let register = Exchanging { held: 0 };
         let watch = open_watch(alloc, LinedRegister { register })?;
-        let numbering = Numbering::new(alloc, opening)?;
+        let records = Records::new(alloc, opening)?;
         Ok(Watcher {
             lines: HEADER,
-            numbering,
+            records,
             watch,
             key: None,
             high: None,
@@ -203,7 +203,7 @@ impl Watcher {
             (t : LinesSeen) × HasOperation s (keyed_seen op) t × Knows t self.new) }
     {
         keep_key(alloc, &mut self.key, &op.key)?;
-        let next = number_op(&mut self.numbering, op)?;
+        let next = number_op(&mut self.records, op)?;
         self.counts = self.counts.with(&next)?;
         take_lined(&mut self.watch, next, line)?;
         self.lines = line;
@@ -239,7 +239,7 @@ impl Watcher {
         let line = self.lines;
         let Watcher {
             lines,
-            numbering,
+            records,
             watch,
             key,
             high: _,
@@ -247,15 +247,16 @@ impl Watcher {
             ended,
         } = self;
         match rise_before(alloc, watch, moment_of(high), budget) {
-            Ok(Risen::Open(watch)) => Step::GoesOn(Watcher {
+            Ok(Risen::Open(watch)) => Watcher {
                 lines,
-                numbering,
+                records,
                 watch,
                 key,
                 high,
                 counts,
                 ended,
-            }),
+            }
+            .forget(alloc),
             Ok(Risen::Lost { at, op }) => Step::Stops(Ok(Told::Lost {
                 at,
                 line: op.what.line,
@@ -263,6 +264,17 @@ impl Watcher {
             Ok(Risen::TooMany { at: _ }) => {
                 Step::Stops(Err(WatchFault::Refused(Fault::Undecided { line })))
             }
+            Err(_) => Step::Stops(Err(NO_MEMORY)),
+        }
+    }
+
+    /// Forgets the records that nothing held names.
+    fn forget(self, alloc: Global) -> Step
+        ensures { (s : LinesSeen) → Knows s self → KnowsLess s result }
+    {
+        let mut watcher = self;
+        match watcher.records.forget(alloc, watcher.watch.held.as_slice()) {
+            Ok(()) => Step::GoesOn(watcher),
             Err(_) => Step::Stops(Err(NO_MEMORY)),
         }
     }
@@ -343,6 +355,7 @@ fn take_lined(
     ensures moment { OnOk result (watch.new.moment ≡ watch.old.moment) }
     ensures taken { OnOk result ((log : List (Operation Lined)) → IsWatchOf lined_after opened log watch.old →
         IsWatchOf lined_after opened (log ++ lined_op op line ∷ []) watch.new) }
+    ensures held { OnOk result (AreHeldWith (lined_op op line) watch.old.held.items watch.new.held.items) }
 {
     let lined = Operation {
         starts: op.starts,
@@ -369,7 +382,8 @@ fn rise_before(
 ) -> Result<Risen<LinedRegister, Lined>, AllocError>
     requires ahead { AreAhead 0 watch.held.items }
     requires later { watch.moment < moment }
-    ensures { IfOk result (λ risen. (log : List (Operation Lined)) → IsWatchOf lined_after opened log watch →
+    ensures held { IfOk result (IsLedToOpen lined_after watch.held.items) }
+    ensures risen { IfOk result (λ risen. (log : List (Operation Lined)) → IsWatchOf lined_after opened log watch →
         IsRisenBefore log watch.moment moment risen) }
 {
     rise(alloc, watch, moment - 1, budget)

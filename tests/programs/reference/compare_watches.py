@@ -1,9 +1,9 @@
 """Compares `fsr watch` with the plain reference (watches.py) on random logs with floors.
 
-    compare_watches.py [--logs N] [--seed S] PROGRAM WORD ..
+    compare_watches.py [--logs N] [--seed S] [--many] PROGRAM WORD ..
 
 The log is on standard input of the program with these words. Some of the logs are judged with a budget as well, and then may have no
-answer. The last lines are how many logs gave the same bytes and status, by kind of ending, and how many there were, by their verdict. The
+answer. With --many the logs are longer, and have so many records that most are forgotten at a floor and some of these come again. The last lines are how many logs gave the same bytes and status, by kind of ending, and how many there were, by their verdict. The
 first difference ends the run with status 1, with the log kept in the file that is named. None at all is status 1.
 """
 
@@ -65,6 +65,29 @@ def make_log(random):
     return data
 
 
+def many_records(random):
+    """The rows of a log in which most writes have a new record, and the others one that was there long ago. An answer may be changed to one
+    that was right long ago."""
+    count, at, times = random.randint(30, 60), 0, []
+    for _ in range(count):
+        at += random.randint(0, 4)
+        times.append((at, None if random.random() < 0.01 else at + random.randint(0, 4)))
+    points = sorted((random.uniform(begin, begin + 4 if end is None else end), place) for place, (begin, end) in enumerate(times))
+    held, made = 0, {}
+    for done, (_, place) in enumerate(points, 1):
+        made[place], held = make_exchanges.do(random, (done, done, random.randrange(done)), held, times[place][1])
+    for place in random.sample(sorted(made), random.choice((0, 0, 1))):
+        make_exchanges.change_answer(random, range(place + 1), made[place])
+    rows = [{"who": 0, "begin": times[place][0], "end": times[place][1], **made[place]} for place in made]
+    rows.sort(key=lambda it: it["begin"] + 4 if it["end"] is None else it["end"])
+    return [{"kind": "lines", "opening": 0, "repeats": True}, *rows]
+
+
+def make_long_log(random):
+    rows = with_floors(random, many_records(random))
+    return "".join(json.dumps(row, separators=(",", ":")) + "\n" for row in rows).encode()
+
+
 def ended(command, data):
     done = subprocess.run(command, input=data, capture_output=True, check=False)
     return done.stdout.decode(), done.stderr.decode(), done.returncode
@@ -93,11 +116,12 @@ def main():
     parser = argparse.ArgumentParser()
     parser.add_argument("--logs", type=int, default=2000)
     parser.add_argument("--seed", type=int, default=1)
+    parser.add_argument("--many", action="store_true")
     parser.add_argument("command", nargs="+")
     given = parser.parse_args()
     source, endings, kinds = random.Random(given.seed), collections.Counter(), collections.Counter()
     for number in range(given.logs):
-        data = make_log(source)
+        data = make_long_log(source) if given.many else make_log(source)
         wanted, found = watches.answers(data), ended(given.command, data)
         if not agree(found, wanted):
             return tell(number, given.seed, data, found, wanted)

@@ -103,18 +103,17 @@ def most_before(opening, ops):
 
 
 def small(data, lines):
-    """What `--small` prints of a log that has this reason: a document of kind `log` of the lines that it names. Records have the numbers in
-    which the log has them first, and tasks those of their first operations among these."""
+    """What `--small` prints of a log that has this reason: a document of kind `log` of the lines that it names. A record has the number of the
+    line that wrote it, 0 if it is the opening, and else that of the operation's own line; tasks have those of their first operations."""
     opening, limit, ops, _ = read(data)
-    numbers = {opening: 0}
-    for each in of_key(ops, ops[lines[0] - 2]["key"]):
-        if each["record"] is not None:
-            numbers.setdefault(each["record"], len(numbers))
-    shown = [ops[line - 2] for line in named_by(lines, ops)]
+    named = named_by(lines, ops)
+    shown = [ops[line - 2] for line in named]
+    numbers = {each["record"]: each["line"] for each in shown if each["kind"] == "write"} | {opening: 0}
     tasks = [each["who"] for each in shown]
     texts = [json.dumps({"who": tasks.index(each["who"]), "kind": each["kind"], "begin": each["begin"], "end": each["end"],
-                         "record": [numbers[each["record"]]] * 3}, separators=(",", ":")) for each in shown]
-    return f'{{"kind":"log","opening":[0,0,0],"limit":{limit or 1},"ops":[\n ' + ",\n ".join(texts) + "]}\n"
+                         "record": [numbers.get(each["record"], each["line"])] * 3}, separators=(",", ":")) for each in shown]
+    head = f'{{"kind":"log","opening":[0,0,0],"limit":{limit or 1},"lines":[{",".join(map(str, named))}],"ops":[\n '
+    return head + ",\n ".join(texts) + "]}\n"
 
 
 def is_order_of_writes(data, text):

@@ -1,10 +1,11 @@
 -- The events of a log, and what the sweep holds behind the first of them. Only private functions cite this.
 use Rattle.std.specs.Prelude.{◌≡◌, ℕ, ◌<◌, ◌≤◌, Bool, true, false, List, [], ◌∷◌, length, slice_get, Option, None}
-use Rattle.std.specs.Prelude.{Some}
+use Rattle.std.specs.Prelude.{map, Some}
 use Rattle.object_core.specs.declared.operation.Operation.{Operation}
 use Rattle.object_core.specs.Logs.{IsLinearizable}
 use Rattle.object_sweep.specs.declared.configuration.Configuration.{Configuration}
 use Rattle.object_sweep.specs.declared.event.Event.{Event}
+use Rattle.object_sweep.specs.declared.event.Turn.{Turn}
 use Rattle.object_sweep.specs.inner.Cuts.{IsLogCut, KeepsEnds}
 use Rattle.object_sweep.specs.inner.Steps.{AnyCanFinish}
 use Rattle.object_sweep.specs.Reached.{AreReachable, is_in}
@@ -25,6 +26,36 @@ end_of (Some at) place = ends at place ∷ []
 
 abbrev pub events_of : {W : Type 0} → Operation W → ℕ → List Event
 events_of o place = begins o.starts place ∷ end_of o.ends place
+
+-- the moment that stands there
+abbrev pub moment : Option ℕ → ℕ
+moment None = 0
+moment (Some at) = at
+
+-- the beginning of an operation and its end, without their moments
+abbrev pub end_turn : Option ℕ → ℕ → List Turn
+end_turn None place = []
+end_turn (Some at) place = record { ends = true; place = place } ∷ []
+
+abbrev pub turns_of : {W : Type 0} → Operation W → ℕ → List Turn
+turns_of o place = record { ends = false; place = place } ∷ end_turn o.ends place
+
+module _ {W : Type 0} where
+  abbrev pub moment_in : Option (Operation W) → Bool → ℕ
+  moment_in None ends = 0
+  moment_in (Some o) false = o.starts
+  moment_in (Some o) true = moment o.ends
+
+  -- when the operation at a place begins or ends
+  abbrev pub moment_of : List (Operation W) → ℕ → Bool → ℕ
+  moment_of log place ends = moment_in (slice_get log place) ends
+
+  abbrev pub event_of : List (Operation W) → Turn → Event
+  event_of log turn = record { at = moment_of log turn.place turn.ends; ends = turn.ends; place = turn.place }
+
+  -- these events, each with its moment
+  abbrev pub events_at : List (Operation W) → List Turn → List Event
+  events_at log turns = map (event_of log) turns
 
 -- x comes no later than y
 pub record ComesNoLater (x y : Event) : Type 0 where

@@ -5,7 +5,7 @@ use Rattle.std.specs.Prelude.{slice_get, Option, None, Some, ◌↔◌, ◌⊎�
 use Rattle.object_core.specs.declared.operation.Operation.{Operation}
 use Rattle.object_core.specs.Logs.{is_due}
 use Rattle.object_sweep.specs.inner.Steps.{IsInPlaceOf}
-use Rattle.object_watch.specs.Remainders.{AnyLawfulWith, AreAhead, ComesFrom, IsOfOne, removed}
+use Rattle.object_watch.specs.Remainders.{AnyLawfulWith, AreAhead, AreLedTo, ComesFrom, IsOfOne, removed}
 use Rattle.object_watch.specs.declared.ends.End.{End}
 use Rattle.object_watch.specs.declared.remainder.Remainder.{Remainder}
 
@@ -151,7 +151,7 @@ module _ {S W : Type 0} (after : S → W → Option S) where
     pub goes : (future : List (Operation W)) (last : ℕ) → ComesFrom (end + 1) last future →
         (AnyLawfulWith after future last kept ↔ AnyLawfulWith after future last held)
     pub ahead : AreAhead (end + 1) kept
-    pub of : (o : Operation W) → IsOfOne kept o → IsOfOne held o
+    pub of : AreLedTo after held kept
 
 -- when the soonest of these operations ends, and one behind this moment if none ends by then
 abbrev pub end_or : ℕ → Option ℕ → ℕ

@@ -1,7 +1,7 @@
 -- What the ends up to a moment leave. Only private functions cite this.
 use Rattle.std.specs.Prelude.{ℕ, ◌+◌, ◌≤◌, List, Option}
 use Rattle.object_core.specs.declared.operation.Operation.{Operation}
-use Rattle.object_watch.specs.Remainders.{AreAhead, IsOfOne}
+use Rattle.object_watch.specs.Remainders.{AreAhead, AreLedTo}
 use Rattle.object_watch.specs.Watches.{AreTooManyAt, IsHeldOf, IsLawfulBetween, IsFirstLost}
 use Rattle.object_watch.specs.declared.pass.Passed.{Passed}
 use Rattle.object_watch.specs.declared.pass.Passed.TheVariants.{Open, Lost, TooMany}
@@ -14,11 +14,11 @@ module _ {S W : Type 0} where
   IsAheadPassed last (Lost at op) = Unit {0}
   IsAheadPassed last (TooMany at) = Unit {0}
 
-  -- nothing else is left than there was
-  abbrev pub IsOfPassed : List (Remainder S W) → Passed S W → Type 0
-  IsOfPassed held (Open left) = (o : Operation W) → IsOfOne left.items o → IsOfOne held o
-  IsOfPassed held (Lost at op) = Unit {0}
-  IsOfPassed held (TooMany at) = Unit {0}
+  -- nothing else is left than what there was leads to
+  abbrev pub IsOfPassed : (S → W → Option S) → List (Remainder S W) → Passed S W → Type 0
+  IsOfPassed after held (Open left) = AreLedTo after held left.items
+  IsOfPassed after held (Lost at op) = Unit {0}
+  IsOfPassed after held (TooMany at) = Unit {0}
 
   -- up to a moment: the log is lawful by each moment up to it, or there is an end at which that isn't known any more
   abbrev pub ArePassed : (S → W → Option S) → S → List (Operation W) → ℕ → ℕ → Passed S W → Type 0

@@ -4,7 +4,8 @@ use Rattle.object_sweep.specs.declared.narrow.Passed.{Passed}
 use Rattle.object_sweep.specs.inner.Steps.{IsPassed}
 use Rattle.object_sweep.proofs.Reaching.{passed_few}
 use Rattle.object_sweep.proofs.narrow.pass_narrowly.Goals as goal
-use Rattle.object_sweep.proofs.narrow.pass_narrowly.Goals.{then-width-le-NARROW+then-any+in_ok-kept, else-width-le-NARROW+in_ok-passed}
+use Rattle.object_sweep.proofs.narrow.pass_narrowly.Goals.{else-width-le-NARROW+in_ok-passed}
+use Rattle.object_sweep.proofs.narrow.pass_narrowly.Goals.{then-width-le-NARROW+then-not-is_empty+in_ok-kept}
 
 pub returns : goal.returns
 returns g c =
@@ -17,6 +18,6 @@ returns g c =
 
     passed : P c.if-width-le-NARROW.passed
     passed = elim c.if-width-le-NARROW.branch [
-      | then-width-le-NARROW+then-any+in_ok-kept w ↦ subst P (sym w.passed-is) w.in_ok-kept.ensures
+      | then-width-le-NARROW+then-not-is_empty+in_ok-kept w ↦ subst P (sym w.passed-is) w.in_ok-kept.ensures
       | else-width-le-NARROW+in_ok-passed w ↦ subst P (sym w.passed-is) w.in_ok-passed.ensures
     ]

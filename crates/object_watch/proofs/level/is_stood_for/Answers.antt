@@ -7,10 +7,11 @@ pub returns-then-is_in_place_of : goal.returns-then-is_in_place_of
 returns-then-is_in_place_of g c t = (
   c.loop-i.i,
   c.index-rest-i.result,
-  c.index-rest-place.result,
+  c.index-rest-place-then-one-end.result,
   before,
   slice_get_read c.args.rest.now (length c.args.rest.now) c.loop-i.i c.index-rest-i.result refl inside c.index-rest-i.is,
-  slice_get_read c.args.rest.now (length c.args.rest.now) c.args.place c.index-rest-place.result refl c.requires c.index-rest-place.is,
+  slice_get_read c.args.rest.now (length c.args.rest.now) c.args.place c.index-rest-place-then-one-end.result refl c.requires
+      c.index-rest-place-then-one-end.is,
   c.if-one-end.true,
   c.is_in_place_of.ensures c.if-is_in_place_of.true,
 )

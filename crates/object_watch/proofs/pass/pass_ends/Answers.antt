@@ -5,6 +5,7 @@ use Rattle.std.specs.Prelude.{Vec}
 use Rattle.object_watch.specs.declared.ends.End.{End}
 use Rattle.object_watch.specs.declared.remainder.Remainder.{Remainder}
 use Rattle.object_watch.specs.inner.Levels.{AreLeftBehind, IsSoonestEnd, NoneIsOverBefore}
+use Rattle.object_watch.proofs.Passing.{led_more, led_same}
 use Rattle.object_watch.proofs.Soonest.{soonest_high, soonest_low}
 use Rattle.object_watch.proofs.Watching.{ahead_at_all, none_ahead, rises_done, rises_first, rises_lost, rises_more, rises_too_many}
 use Rattle.object_watch.proofs.pass.pass_ends.Goals as goal
@@ -12,7 +13,7 @@ use Rattle.object_watch.proofs.pass.pass_ends.Goals as goal
 pub loop-end-init : goal.loop-end-init
 loop-end-init g c = (
   c.requires,
-  λ o x. x,
+  led_same g.O.Object.after c.args.held.items,
   λ opening log moment le w. rises_first g.O.Object.after opening log moment c.args.last c.args.held.items le w,
 )
 
@@ -101,7 +102,7 @@ loop-end-smaller g c =
 pub loop-end-preserved : goal.loop-end-preserved
 loop-end-preserved g c = (
   ahead_at_all 0 (c.in-Some.end.at + 1) c.in-Some-2.kept.items (omega arith) left.ahead,
-  λ o x. c.loop-end.invariant.1 o (left.of o x),
+  led_more g.O.Object.after c.args.held.items c.loop-end.held.items c.loop-end.invariant.1 c.in-Some-2.kept.items left.of,
   λ opening log moment le w. rises_more g.O.Object.after opening log moment c.args.last c.loop-end.held.items
       (c.loop-end.invariant.2 opening log moment le w) c.in-Some.end next c.in-Some-2.kept.items left some,
 )

@@ -14,7 +14,7 @@ pub returns-in-Open : goal.returns-in-Open
 returns-in-Open g c opening log w =
     let h = subst P c.in-Open.is (c.in_ok-_held.ensures.passed opening log c.args.watch.moment high w) in
     finished g.O.Object.after opening log c.latest_end-last.result c.args.watch.held.items c.in-Open._held.items h.0
-    (subst (IsOfPassed c.args.watch.held.items) c.in-Open.is c.in_ok-_held.ensures.of) ends
+    (subst (IsOfPassed g.O.Object.after c.args.watch.held.items) c.in-Open.is c.in_ok-_held.ensures.of).operations ends
   where
     L : List (Remainder g.row.O.Denot g.row.O-What.Denot) → Type 0
     L z = IsLatest (length z) z c.args.watch.moment c.latest_end-last.result

@@ -1,7 +1,8 @@
 -- Up to the moment, but never the last one of all.
 use Rattle.std.proofs.Common.{◌+◌, ◌≤◌, subst, arith}
 use Rattle.object_watch.specs.declared.pass.Passed.{Passed}
-use Rattle.object_watch.specs.inner.Passes.{ArePassed, IsAheadPassed}
+use Rattle.object_watch.specs.inner.Passes.{ArePassed, IsAheadPassed, IsOfPassed}
+use Rattle.object_watch.proofs.Passing.{led_same}
 use Rattle.object_watch.proofs.Watching.{ahead_at_all, ahead_none, watch_lawful}
 use Rattle.object_watch.proofs.watch.rise.Goals as goal
 
@@ -50,3 +51,9 @@ returns-in-TooMany-clause-risen g c opening log w =
 
     P : Passed g.row.O.Denot g.row.O-What.Denot → Type 0
     P z = ArePassed g.O.Object.after opening log c.args.watch.moment c.min-until.result z
+
+pub returns-then-until-watch-clause-held : goal.returns-then-until-watch-clause-held
+returns-then-until-watch-clause-held g c = led_same g.O.Object.after c.args.watch.held.items
+
+pub returns-in-Open-clause-held : goal.returns-in-Open-clause-held
+returns-in-Open-clause-held g c = subst (IsOfPassed g.O.Object.after c.args.watch.held.items) c.in-Open.is c.in_ok-held.ensures.of

@@ -2,7 +2,7 @@
 use Rattle.std.proofs.Common.{◌≡◌, ℕ, ◌<◌, ◌≤◌, Option, Some, length, sym, subst, arith, inl, inr}
 use Rattle.std.specs.Prelude.{IsSomeAnd}
 use Rattle.std.proofs.lemmas.Bool.{cases_lt, iff_false}
-use Rattle.object_watch.proofs.Watching.{taken_ahead, watch_idle, watch_taken}
+use Rattle.object_watch.proofs.Watching.{held_same, held_with, taken_ahead, watch_idle, watch_taken}
 use Rattle.object_watch.proofs.watch.take.Goals as goal
 
 -- what isn't backwards runs forwards
@@ -29,3 +29,11 @@ pub returns-then-is_idle-clause-taken : goal.returns-then-is_idle-clause-taken
 returns-then-is_idle-clause-taken g c opening log w =
     watch_idle g.O.Object.after opening log c.args.watch.now.moment c.args.op (c.is_idle.ensures c.if-is_idle.true)
     c.args.watch.now.held.items w
+
+pub returns-in-Ok-clause-held : goal.returns-in-Ok-clause-held
+returns-in-Ok-clause-held g c =
+    held_with c.args.op (forth c.args.op.ends c.args.op.starts (iff_false c.is_backwards.ensures c.if-is_backwards.false))
+    c.args.watch.now.held.items c.push_all.new.held.items (length c.args.watch.now.held.items) (omega arith) c.in-Ok.ensures
+
+pub returns-then-is_idle-clause-held : goal.returns-then-is_idle-clause-held
+returns-then-is_idle-clause-held g c = held_same c.args.op c.args.watch.now.held.items

@@ -15,3 +15,8 @@ pub returns-in-Exchange-Done : goal.returns-in-Exchange-Done
 returns-in-Exchange-Done c = λ s k before next.
     let P : WatchLine → Type 0 = λ r. TakesEntry s (Ok (watched_seen r)) c.end_at.result in
     subst P (sym (c.in-Exchange-Done.is ∙ ap Exchange c.in-Exchange-Done.field-0-is)) (c.end_at.ensures s k before next)
+
+pub returns-in-Floor : goal.returns-in-Floor
+returns-in-Floor c = λ s k before next.
+    let P : WatchLine → Type 0 = λ r. TakesEntry s (Ok (watched_seen r)) c.rise_to.result in
+    subst P (sym c.in-Floor.is) (c.rise_to.ensures s k before next)

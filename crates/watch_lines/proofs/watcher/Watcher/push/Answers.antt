@@ -5,6 +5,6 @@ use Rattle.watch_lines.proofs.watcher.Watcher.push.Goals as goal
 
 pub returns : goal.returns
 returns c = λ s k here.
-    pushed s c.args.self.now _ c.args.op c.in_ok-next.next c.args.line k here (c.in_ok-next.ensures s.records k.numbering)
-    c.in_ok-self.ensures c.in_ok-take_lined.ensures.moment (c.in_ok-take_lined.ensures.taken s.log k.watch)
-    c.in_ok-keep_key.ensures refl refl refl
+    pushed s c.args.self.now _ c.args.op c.in_ok-next.next c.args.line k here
+    (c.in_ok-next.ensures.named s.records k.follows.naming k.follows.records) c.in_ok-self.ensures c.in_ok-take_lined.ensures.moment
+    c.in_ok-take_lined.ensures.taken c.in_ok-take_lined.ensures.held c.in_ok-keep_key.ensures refl refl refl
