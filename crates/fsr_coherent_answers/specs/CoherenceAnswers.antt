@@ -1,7 +1,6 @@
 -- The answer to a log in lines that is asked for its coherence: a coherent order of it, or why there is none; or the
 -- fault (this project's own).
 use Rattle.std.specs.Prelude.{◌≡◌, ℕ, Bool, true, false, List, Result, Ok, Err}
-use Rattle.exchanges_log.specs.ExchangeLogs.{has_repeats}
 use Rattle.history_coherence.specs.Answers.{IsCoherence}
 use Rattle.history_coherence.specs.declared.coherence.Coherence.{Coherence}
 use Rattle.lines_log.specs.Faults.{IsLinesFault, refused_at}
@@ -9,6 +8,7 @@ use Rattle.program_runs.specs.declared.fault.Answer.{Answer}
 use Rattle.program_runs.specs.declared.fault.Fault.{Fault}
 use Rattle.read_document.specs.declared.key.Key.TheVariants.{Repeats}
 use Rattle.read_document.specs.declared.refusal.DocError.TheVariants.{Law}
+use Rattle.read_line.specs.Repeats.{has_repeats}
 use Rattle.whole_log.specs.WholeLogs.{IsWholeLog}
 use Rattle.whole_log.specs.declared.whole_log.WholeLog.{WholeLog}
 use Rattle.fsr_coherent_answers.specs.CoherenceText.{printed}

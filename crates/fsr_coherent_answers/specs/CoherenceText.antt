@@ -6,7 +6,7 @@ use Rattle.history_coherence.specs.declared.coherence.Coherence.TheVariants.{Coh
 use Rattle.history_coherence.specs.declared.coherence.Incoherence.{Incoherence}
 use Rattle.history_coherence.specs.declared.coherence.Incoherence.TheVariants.{Unwritten, Ahead, Circle}
 use Rattle.history_coherence.specs.declared.coherence.Link.{Link}
-use Rattle.fsr_order_answers.specs.Text.{count_text, end_text, little_text}
+use Rattle.print_reasons.specs.Counts.{count_text, end_text, little_text}
 use Rattle.print_reasons.specs.Sentences.{number_text, unwritten_text}
 use Rattle.print_reasons.specs.Text.{write_lines}
 use Rattle.print_reasons.specs.Together.{shown_lines}

@@ -8,13 +8,13 @@ ghost use Rattle.program_runs.specs.Answers.{GivesReply, HasAnswerStatus};
 ghost use Rattle.whole_log.specs.WholeLogs.{IsWholeLog};
 
 use crate::text::coherence_text;
-use exchanges_log::has_repeats;
 use history_coherence::{Coherence, check_written, search_coherent};
 use history_core::Items;
 use lines_log::{read_lines, refused_at};
 use program_runs::{Answer, Fault};
 use program_streams::Exit;
 use read_document::{DocError, Key};
+use read_line::has_repeats;
 use std::alloc::{AllocError, Global};
 use whole_log::{Unread, WholeLog, read_whole};
 

@@ -6,7 +6,7 @@ ghost use Rattle.fsr_coherent_answers.specs.CoherenceAnswers.{IsCoherenceAnswer}
 ghost use Rattle.program_streams.specs.Stream.{HasRoom};
 
 use crate::answer::order_coherent;
-use fsr_order_answers::take_log;
+use fsr_order_input::take_log;
 use program_runs::{Answer, Command, FSR, Fault, Program, run_command};
 use program_streams::{Sink, Source};
 use std::alloc::Global;

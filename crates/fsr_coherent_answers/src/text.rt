@@ -1,9 +1,8 @@
 //! All that is printed of a log that is asked for its coherence.
-ghost use Rattle.std.specs.Prelude.{◌≡◌, ◌++◌, ◌*◌, ℕ, List, map, nat_lt, IfOk, OnOk};
+ghost use Rattle.std.specs.Prelude.{◌≡◌, ◌++◌, ℕ, List, map, IfOk, OnOk};
 ghost use Rattle.fsr_coherent_answers.specs.CoherenceText.{ahead_text, circle_text, coherence_text, counts_text};
 ghost use Rattle.fsr_coherent_answers.specs.CoherenceText.{found_text, incoherent_text, name_of, named_text};
 ghost use Rattle.fsr_coherent_answers.specs.CoherenceText.{sentence_text};
-ghost use Rattle.fsr_order_answers.specs.Text.{count_text, end_text, little_text};
 ghost use Rattle.print_reasons.specs.Sentences.{number_text, unwritten_text};
 ghost use Rattle.print_reasons.specs.Text.{body_of, line_text, write_lines};
 ghost use Rattle.print_reasons.specs.Together.{shown_lines};
@@ -12,7 +11,7 @@ ghost use Rattle.read_line.specs.Places.{line_at};
 use crate::lines::{body_lines, line_in};
 use crate::places::places_in;
 use history_coherence::{Coherence, Incoherence};
-use print_reasons::{push_u64, push_words};
+use print_reasons::{push_count, push_end, push_little, push_u64, push_words};
 use read_line::line_of;
 use std::alloc::{AllocError, Global};
 use whole_log::WholeLog;
@@ -47,34 +46,6 @@ fn found_text(
         }
         Coherence::Incoherent { reason } => incoherent_text(alloc, bytes, reason),
     }
-}
-
-/// How little so many operations and records show, if so.
-fn push_little(
-    text: &mut Vec<u8>,
-    ops: usize,
-    records: usize,
-    read: usize,
-) -> Result<(), AllocError>
-    ensures { OnOk result (text.new.items ≡ text.old.items ++ little_text ops records read) }
-{
-    if ops == 0 {
-        push_words(text, "Nothing was shown: there is no operation.\n")
-    } else if are_few(read, records) {
-        push_words(
-            text,
-            "Little was shown: less than 1 % of the records were read.\n",
-        )
-    } else {
-        Ok(())
-    }
-}
-
-/// Whether these are less than one of a hundred.
-fn are_few(read: usize, records: usize) -> bool
-    ensures { result ≡ nat_lt (read * 100) records }
-{
-    u128::from(read as u64) * 100 < u128::from(records as u64)
 }
 
 /// A reason by its lines, these lines as they stand in the log, and a sentence.
@@ -203,23 +174,4 @@ fn push_counts(text: &mut Vec<u8>, log: &WholeLog) -> Result<(), AllocError>
     push_count(text, log.records, " records, ")?;
     push_count(text, log.read, " of them read")?;
     push_end(text, log.ended)
-}
-
-#[tactic(auto, using(std::proofs::Common::append_assoc))]
-fn push_count(text: &mut Vec<u8>, number: usize, words: &str) -> Result<(), AllocError>
-    ensures { OnOk result (text.new.items ≡ text.old.items ++ count_text number words.now) }
-{
-    push_u64(text, "", number as u64)?;
-    push_words(text, words)
-}
-
-/// That the end isn't there, if so.
-fn push_end(text: &mut Vec<u8>, ended: bool) -> Result<(), AllocError>
-    ensures { OnOk result (text.new.items ≡ text.old.items ++ end_text ended) }
-{
-    if ended {
-        push_words(text, "\n")
-    } else {
-        push_words(text, "; no last line `done`\n")
-    }
 }

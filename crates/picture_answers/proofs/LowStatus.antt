@@ -24,7 +24,7 @@ low_drawn scene a is_drawn = let same : a.status ≡ status_of (exit_of scene.fi
 
 low_reading : (d : Result Shown DocError) (a : Answer) → AnswersReading Answers d (Ok a) → a.status ≤ 1
 low_reading (Ok (shown.Check document)) a answered = low_drawn answered.0 a answered.2
-low_reading (Ok (shown.Log log)) a answered = low_drawn answered.2 a answered.4
+low_reading (Ok (shown.Log log lines)) a answered = low_drawn answered.2 a answered.4
 low_reading (Ok (shown.Schedule (Cell schedule))) a answered = low_drawn answered.2 a answered.4
 low_reading (Ok (shown.Schedule (Matrix schedule titled))) a answered = low_drawn answered.3 a answered.5
 low_reading (Ok (shown.Schedule (Board schedule titled))) a answered = low_drawn answered.3 a answered.5

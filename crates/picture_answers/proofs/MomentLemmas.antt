@@ -1,8 +1,8 @@
 -- The rank of a moment among moments that rise.
 use Rattle.std.proofs.Common.{rules, tests, ◌≡◌, ◌∙◌, ◌++◌, ◌+◌, ◌<◌, ◌≤◌, ◌⊎◌, inl, inr, ℕ, zero, suc, List, [], ◌∷◌, ap, arith, cond}
-use Rattle.std.proofs.Common.{Bool, true, false, Result, Ok, Err, append-nil, get_or, length, map, sym, take}
+use Rattle.std.proofs.Common.{Bool, true, false, Ok, Err, append-nil, get_or, length, map, sym, take}
 use Rattle.std.specs.Prelude.{nat_lt}
-use Rattle.std.specs.List.{count_by, flat_map}
+use Rattle.std.specs.List.{flat_map}
 use Rattle.std.specs.List.Sorted.{IsBinarySearchResult, IsStrictlyIncreasing}
 use Rattle.std.specs.Ordering.{nat_cmp}
 use Rattle.std.proofs.lemmas.List.{map-append, take_more}

@@ -1,5 +1,5 @@
 -- The answer to a document: its picture with its status, or the fault (this project's own).
-use Rattle.std.specs.Prelude.{◌≡◌, ℕ, List, [], ◌∷◌, Option, None, Some, Result, Ok, Err}
+use Rattle.std.specs.Prelude.{◌≡◌, ℕ, List, [], ◌∷◌, Result, Ok, Err}
 use Rattle.program_streams.specs.Exits.{status_of}
 use Rattle.program_streams.specs.declared.exit.Exit.{Exit}
 use Rattle.program_streams.specs.declared.exit.Exit.TheVariants.{Sound, Unsound}
@@ -29,7 +29,7 @@ use Rattle.matrix_core.specs.declared.schedule.BoardSchedule.{BoardSchedule}
 use Rattle.matrix_core.specs.declared.schedule.MatrixReport.{MatrixReport}
 use Rattle.matrix_core.specs.declared.schedule.MatrixSchedule.{MatrixSchedule}
 use Rattle.read_log.specs.Logs.{IsLogFault, IsLogSearch}
-use Rattle.read_log.specs.Log.{CanBeSearched, log_document}
+use Rattle.read_log.specs.Log.{CanBeSearched, lines_in, log_document}
 use Rattle.history_core.specs.declared.reason.Search.{Search}
 use Rattle.print_picture.specs.Picture.{picture_of}
 use Rattle.print_picture.specs.declared.scene.Finding.{Finding}
@@ -48,11 +48,12 @@ abbrev pub of_schedule : Result ScheduleDocument DocError → Result Shown DocEr
 of_schedule (Ok schedule) = Ok (shown.Schedule schedule)
 of_schedule (Err refusal) = Err refusal
 
--- a log, or where the document is refused for its kind, a schedule
-abbrev pub or_schedule : Result (History Band) DocError → Result ScheduleDocument DocError → Result Shown DocError
-or_schedule (Ok log) other = Ok (shown.Log log)
-or_schedule (Err doc.Kind) other = of_schedule other
-or_schedule (Err refusal) other = Err refusal
+-- a log with its lines, or where the document is refused for its kind, a schedule
+abbrev pub or_schedule : Result (History Band) DocError → List ℕ → Result ScheduleDocument DocError
+    → Result Shown DocError
+or_schedule (Ok log) lines other = Ok (shown.Log log lines)
+or_schedule (Err doc.Kind) lines other = of_schedule other
+or_schedule (Err refusal) lines other = Err refusal
 
 -- a history with its order, or where the document is refused for its kind, what another kind stands for
 abbrev pub or_other : Result CheckDocument DocError → Result Shown DocError → Result Shown DocError
@@ -61,7 +62,7 @@ or_other (Err doc.Kind) other = other
 or_other (Err refusal) other = Err refusal
 
 abbrev pub other_in : Data → Result Shown DocError
-other_in d = or_schedule (log_document d) (schedule_document d)
+other_in d = or_schedule (log_document d) (lines_in d) (schedule_document d)
 
 -- a document of a kind that one of the commands `check`, `order` and `play` takes
 abbrev pub shown_in : Data → Result Shown DocError
@@ -75,7 +76,7 @@ document_of bytes = do
 -- its log can be searched, or its schedule played
 abbrev pub CanBeShown : Shown → Type 0
 CanBeShown (shown.Check document) = Unit {0}
-CanBeShown (shown.Log log) = CanBeSearched log
+CanBeShown (shown.Log log lines) = CanBeSearched log
 CanBeShown (shown.Schedule document) = CanBePlayed document
 
 -- how a run ends that shows what was found
@@ -95,10 +96,11 @@ DrawsCheck document (Err fault) = ⊥
 
 -- the answer to a log: the picture of the order that was found, or of the reason why there is none;
 -- or why no order was looked for
-abbrev pub AnswersLog : History Band → Result Answer Fault → Type 0
-AnswersLog log (Ok answer) =
-    (search : Search) × IsLogSearch log search × (scene : Scene) × ShowsLog log search scene × (answer ≡ drawn scene)
-AnswersLog log (Err fault) = IsLogFault log fault
+abbrev pub AnswersLog : History Band → List ℕ → Result Answer Fault → Type 0
+AnswersLog log lines (Ok answer) =
+    (search : Search) × IsLogSearch log search × (scene : Scene) × ShowsLog log lines search scene
+    × (answer ≡ drawn scene)
+AnswersLog log lines (Err fault) = IsLogFault log fault
 
 -- the answer to the schedule of a cell: the picture of the report of its run, or the first step that has no operation
 abbrev pub DrawsCell : CellSchedule Band → Result Answer Fault → Type 0
@@ -148,7 +150,7 @@ DrawsSchedule (Board schedule titled) reply = DrawsBoard schedule reply
 -- the answer to what a document stands for
 abbrev pub Answers : Shown → Result Answer Fault → Type 0
 Answers (shown.Check document) reply = DrawsCheck document reply
-Answers (shown.Log log) reply = AnswersLog log reply
+Answers (shown.Log log lines) reply = AnswersLog log lines reply
 Answers (shown.Schedule document) reply = DrawsSchedule document reply
 
 -- the answer to the bytes of a document

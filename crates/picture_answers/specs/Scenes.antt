@@ -34,24 +34,27 @@ AreSame x y = IsTrue ((x.lo == y.lo) && ((x.now == y.now) && (x.hi == y.hi)))
 abbrev pub ArePointsOf : List (Op Band) → List ℕ → List ℕ → Type 0
 ArePointsOf ops order points = AreEarliest ops order points ⊎ ((¬ HasPoints ops order) × (points ≡ []))
 
--- a history with an order of it and its points, and what is said of it; these stamps, lanes and slot accesses; and
--- the moments of which its times are the ranks, or none where they are moments
+-- a history with an order of it and its points, and what is said of it; these stamps, lines, lanes and slot accesses;
+-- and the moments of which its times are the ranks, or none where they are moments
 pub record IsSceneOf (history : History Band) (moments order : List ℕ) (finding : Finding)
-    (stamps : List (Option Stamp)) (lanes : Lanes) (visits : List Visit) (scene : Scene) : Type 0 where
+    (stamps : List (Option Stamp)) (lines : List ℕ) (lanes : Lanes) (visits : List Visit) (scene : Scene) :
+    Type 0 where
   pub history_is : scene.history ≡ history
   pub moments_are : scene.moments ≡ moments
   pub order_is : scene.order ≡ order
   pub points_are : ArePointsOf history.ops order scene.points
   pub finding_is : scene.finding ≡ finding
   pub stamps_are : scene.stamps ≡ stamps
+  pub lines_are : scene.lines ≡ lines
   pub lanes_are : scene.lanes ≡ lanes
   pub visits_are : scene.visits ≡ visits
 
--- a history without stamps and slots, each moment of which is its rank
-pub record IsPlainSceneOf (history : History Band) (order : List ℕ) (finding : Finding) (scene : Scene) : Type 0 where
+-- a history without stamps and slots, each moment of which is its rank, with these lines
+pub record IsPlainSceneOf (history : History Band) (lines : List ℕ) (order : List ℕ) (finding : Finding)
+    (scene : Scene) : Type 0 where
   pub moments : List ℕ
   pub are : AreMoments history.ops moments
-  pub shown : IsSceneOf (ranked_history moments history) moments order finding [] Actors [] scene
+  pub shown : IsSceneOf (ranked_history moments history) moments order finding [] lines Actors [] scene
 
 abbrev pub finding_of : Option Break → Finding
 finding_of None = Lawful
@@ -60,24 +63,25 @@ finding_of (Some broken) = Broken broken
 -- of a check what breaks the order, if something does
 pub record ShowsCheck (history : History Band) (order : List ℕ) (scene : Scene) : Type 0 where
   pub broken : Option Break
-  pub shown : IsPlainSceneOf history order (finding_of broken) scene
+  pub shown : IsPlainSceneOf history [] order (finding_of broken) scene
   pub rule : IsVerdict AreSame history.opening history.terms history.ops order (verdict_of broken)
   pub first : IfSome broken (IsFirstBreak AreSame history.opening history.terms history.ops order)
 
 -- of a log the order that was found, or no order and the reason
-abbrev pub ShowsLog : History Band → Search → Scene → Type 0
-ShowsLog log (Order order) scene = IsPlainSceneOf log order Lawful scene
-ShowsLog log (Unlawful reason) scene = IsPlainSceneOf log [] (NoOrder reason) scene
+abbrev pub ShowsLog : History Band → List ℕ → Search → Scene → Type 0
+ShowsLog log lines (Order order) scene = IsPlainSceneOf log lines order Lawful scene
+ShowsLog log lines (Unlawful reason) scene = IsPlainSceneOf log lines [] (NoOrder reason) scene
 
 abbrev pub ShowsCell : CellSchedule Band → CellReport Band → Scene → Type 0
 ShowsCell schedule report scene =
-    IsSceneOf report.history [] report.order Lawful [] Cell (cell_visits schedule report.history.ops report.slots) scene
+    IsSceneOf report.history [] report.order Lawful [] [] Cell
+    (cell_visits schedule report.history.ops report.slots) scene
 
 abbrev pub ShowsMatrix : MatrixReport Band → Scene → Type 0
-ShowsMatrix report scene = IsSceneOf report.history [] report.order Lawful report.stamps Actors [] scene
+ShowsMatrix report scene = IsSceneOf report.history [] report.order Lawful report.stamps [] Actors [] scene
 
 -- of a board also its cells, where they fit
 abbrev pub ShowsBoard : BoardSchedule Band → BoardReport Band → Scene → Type 0
 ShowsBoard schedule report scene =
-    IsSceneOf report.history [] report.order Lawful report.stamps (board_lanes schedule.terms)
+    IsSceneOf report.history [] report.order Lawful report.stamps [] (board_lanes schedule.terms)
     (board_visits schedule.terms report.history.terms report.history.ops report.slots) scene

@@ -22,7 +22,7 @@ use program_runs::{Answer, Fault};
 use program_streams::Exit;
 use read_document::{DocError, read_value};
 use read_history::{CheckDocument, check_document};
-use read_log::{log_document, search_log};
+use read_log::{lines_in, log_document, search_log};
 use read_schedule::{ScheduleDocument, schedule_document};
 use serde_json::Value;
 use std::alloc::{AllocError, Global};
@@ -32,7 +32,11 @@ use std::mem::forget;
 #[derive(Drop)]
 pub enum Shown {
     Check(CheckDocument),
-    Log(History<Band>),
+    /// A log, and the lines on which its operations stand, as far as they are known.
+    Log {
+        history: History<Band>,
+        lines: Items<usize>,
+    },
     Schedule(ScheduleDocument),
 }
 
@@ -42,7 +46,7 @@ pub fn answer(alloc: Global, bytes: &[u8]) -> Result<Answer, Fault>
 {
     match read(alloc, bytes)? {
         Shown::Check(document) => check(alloc, document),
-        Shown::Log(history) => log(alloc, history),
+        Shown::Log { history, lines } => log(alloc, history, lines),
         Shown::Schedule(document) => play(alloc, &document),
     }
 }
@@ -77,7 +81,10 @@ fn other_in(alloc: Global, value: &Value) -> Result<Shown, DocError>
     ensures playable { IfOk result CanBeShown }
 {
     match log_document(alloc, value) {
-        Ok(history) => Ok(Shown::Log(history)),
+        Ok(history) => {
+            let lines = Items::new(lines_in(alloc, value)?);
+            Ok(Shown::Log { history, lines })
+        }
         Err(DocError::Kind) => match schedule_document(alloc, value) {
             Ok(document) => Ok(Shown::Schedule(document)),
             Err(refusal) => Err(refusal),
@@ -105,12 +112,12 @@ fn check(alloc: Global, document: CheckDocument) -> Result<Answer, Fault>
     Ok(answer)
 }
 
-fn log(alloc: Global, history: History<Band>) -> Result<Answer, Fault>
+fn log(alloc: Global, history: History<Band>, lines: Items<usize>) -> Result<Answer, Fault>
     requires { CanBeSearched history }
-    ensures { GivesReply (AnswersLog history) result }
+    ensures { GivesReply (AnswersLog history lines) result }
 {
     let search = search_log(alloc, &history)?;
-    let scene = log_scene(alloc, history, search)?;
+    let scene = log_scene(alloc, history, lines, search)?;
     let answer = draw(alloc, &scene)?;
     Ok(answer)
 }

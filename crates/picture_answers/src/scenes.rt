@@ -1,7 +1,8 @@
 //! The scenes of the documents of each kind.
 
-ghost use Rattle.std.specs.Prelude.{◌≡◌, IfOk};
+ghost use Rattle.std.specs.Prelude.{◌≡◌, [], IfOk};
 ghost use Rattle.matrix_core.specs.Runs.{CanPlay};
+ghost use Rattle.print_picture.specs.declared.scene.Finding.TheVariants.{Lawful};
 ghost use Rattle.picture_answers.specs.Scenes.{ArePointsOf, finding_of, IsPlainSceneOf, IsSceneOf};
 ghost use Rattle.picture_answers.specs.Scenes.{ShowsBoard, ShowsCell, ShowsCheck, ShowsLog, ShowsMatrix};
 
@@ -22,7 +23,13 @@ pub fn check_scene(
     ensures { IfOk result (ShowsCheck history order) }
 {
     let broken = first_break(&history, order.as_slice());
-    plain_scene(alloc, history, order, finding_of(broken))
+    plain_scene(alloc, history, no_lines(alloc), order, finding_of(broken))
+}
+
+fn no_lines(alloc: Global) -> Items<usize>
+    ensures { result ≡ [] }
+{
+    Items::new(Vec::new(alloc))
 }
 
 fn finding_of(broken: Option<Break>) -> Finding
@@ -34,14 +41,19 @@ fn finding_of(broken: Option<Break>) -> Finding
     }
 }
 
-pub fn log_scene(alloc: Global, log: History<Band>, search: Search) -> Result<Scene, AllocError>
-    ensures { IfOk result (ShowsLog log search) }
+pub fn log_scene(
+    alloc: Global,
+    log: History<Band>,
+    lines: Items<usize>,
+    search: Search,
+) -> Result<Scene, AllocError>
+    ensures { IfOk result (ShowsLog log lines search) }
 {
     match search {
-        Search::Order(order) => plain_scene(alloc, log, order, Finding::Lawful),
+        Search::Order(order) => plain_scene(alloc, log, lines, order, Finding::Lawful),
         Search::Unlawful(reason) => {
             let order = Items::new(Vec::new(alloc));
-            plain_scene(alloc, log, order, Finding::NoOrder(reason))
+            plain_scene(alloc, log, lines, order, Finding::NoOrder(reason))
         }
     }
 }
@@ -50,10 +62,11 @@ pub fn log_scene(alloc: Global, log: History<Band>, search: Search) -> Result<Sc
 fn plain_scene(
     alloc: Global,
     history: History<Band>,
+    lines: Items<usize>,
     order: Items<usize>,
     finding: Finding,
 ) -> Result<Scene, AllocError>
-    ensures { IfOk result (IsPlainSceneOf history order finding) }
+    ensures { IfOk result (IsPlainSceneOf history lines order finding) }
 {
     let moments = moments_of(alloc, history.ops.as_slice())?;
     let ranked = ranked_history(alloc, moments.as_slice(), history)?;
@@ -66,6 +79,7 @@ fn plain_scene(
         order,
         finding,
         stamps,
+        lines,
         Lanes::Actors,
         visits,
     )
@@ -85,17 +99,13 @@ pub fn cell_scene(
     } = report;
     let visits = cell_visits(alloc, schedule, history.ops.as_slice(), slots.as_slice())?;
     let stamps = Items::new(Vec::new(alloc));
-    let visits = Items::new(visits);
-    let no_moments = Items::new(Vec::new(alloc));
-    scene_of(
+    played_scene(
         alloc,
         history,
-        no_moments,
         order,
-        Finding::Lawful,
         stamps,
         Lanes::Cell,
-        visits,
+        Items::new(visits),
     )
 }
 
@@ -108,17 +118,7 @@ pub fn matrix_scene(alloc: Global, report: MatrixReport<Band>) -> Result<Scene, 
         order,
     } = report;
     let no_visits = Items::new(Vec::new(alloc));
-    let no_moments = Items::new(Vec::new(alloc));
-    scene_of(
-        alloc,
-        history,
-        no_moments,
-        order,
-        Finding::Lawful,
-        stamps,
-        Lanes::Actors,
-        no_visits,
-    )
+    played_scene(alloc, history, order, stamps, Lanes::Actors, no_visits)
 }
 
 pub fn board_scene(
@@ -144,16 +144,36 @@ pub fn board_scene(
         history.ops.as_slice(),
         slots.as_slice(),
     )?;
-    let visits = Items::new(visits);
-    let no_moments = Items::new(Vec::new(alloc));
+    played_scene(
+        alloc,
+        history,
+        order,
+        stamps,
+        board_lanes(terms),
+        Items::new(visits),
+    )
+}
+
+/// The scene of what a player made of a schedule: its times are moments, and its order is lawful.
+fn played_scene(
+    alloc: Global,
+    history: History<Band>,
+    order: Items<usize>,
+    stamps: Items<Option<Stamp>>,
+    lanes: Lanes,
+    visits: Items<Visit>,
+) -> Result<Scene, AllocError>
+    ensures { IfOk result (IsSceneOf history [] order Lawful stamps [] lanes visits) }
+{
     scene_of(
         alloc,
         history,
-        no_moments,
+        Items::new(Vec::new(alloc)),
         order,
         Finding::Lawful,
         stamps,
-        board_lanes(terms),
+        no_lines(alloc),
+        lanes,
         visits,
     )
 }
@@ -166,10 +186,11 @@ fn scene_of(
     order: Items<usize>,
     finding: Finding,
     stamps: Items<Option<Stamp>>,
+    lines: Items<usize>,
     lanes: Lanes,
     visits: Items<Visit>,
 ) -> Result<Scene, AllocError>
-    ensures { IfOk result (IsSceneOf history moments order finding stamps lanes visits) }
+    ensures { IfOk result (IsSceneOf history moments order finding stamps lines lanes visits) }
 {
     let points = points_of(alloc, &history, &order)?;
     Ok(Scene {
@@ -179,6 +200,7 @@ fn scene_of(
         points,
         finding,
         stamps,
+        lines,
         lanes,
         visits,
     })

@@ -69,17 +69,22 @@ abbrev pub stamp_words : Option Stamp → List ℕ
 stamp_words None = []
 stamp_words (Some stamp) = codes " " ++ stamp_text (Some stamp)
 
-unfoldable pub kind_words : ℕ → ℕ → Kind → Option Stamp → List ℕ
-kind_words x y kind stamp = words_head x y ++ kind_text kind ++ stamp_words stamp ++ words_end
+abbrev pub line_words : Option ℕ → List ℕ
+line_words None = []
+line_words (Some line) = codes " " ++ decimal line
+
+unfoldable pub kind_words : ℕ → ℕ → Kind → Option Stamp → Option ℕ → List ℕ
+kind_words x y kind stamp line =
+    words_head x y ++ kind_text kind ++ stamp_words stamp ++ line_words line ++ words_end
 
 unfoldable pub item_words : ℕ → ℕ → Option Band → List ℕ
 item_words x y item = words_head x y ++ item_text item ++ words_end
 
--- an operation: its interval, its kind with the stamp that it has, and its record
-unfoldable pub op_shapes : Scale → Option Stamp → Op Band → List ℕ
-op_shapes s stamp op =
+-- an operation: its interval, its kind with the stamp and the line that it has, and its record
+unfoldable pub op_shapes : Scale → Option Stamp → Option ℕ → Op Band → List ℕ
+op_shapes s stamp line op =
     bar_text (bar_of (class_of op.kind) s op.who op.starts op.ends)
-    ++ kind_words (x_of s op.starts) (y_of op.who + 14) op.kind stamp ++ item_words (x_of s op.starts)
+    ++ kind_words (x_of s op.starts) (y_of op.who + 14) op.kind stamp line ++ item_words (x_of s op.starts)
     (y_of op.who + 28) op.item
 
 -- ---- points and joins

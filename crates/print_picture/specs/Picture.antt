@@ -76,9 +76,10 @@ terms_text s high ops number (term ∷ terms) =
 
 -- ---- operations and slot accesses
 
-abbrev pub ops_text : Scale → List (Option Stamp) → ℕ → List (Op Band) → List ℕ
-ops_text s stamps place [] = []
-ops_text s stamps place (op ∷ ops) = op_shapes s (entry_at stamps place) op ++ ops_text s stamps (place + 1) ops
+abbrev pub ops_text : Scale → List (Option Stamp) → List ℕ → ℕ → List (Op Band) → List ℕ
+ops_text s stamps lines place [] = []
+ops_text s stamps lines place (op ∷ ops) =
+    op_shapes s (entry_at stamps place) (slice_get lines place) op ++ ops_text s stamps lines (place + 1) ops
 
 -- in the lane of its slot, or in the row of its slot in the lane of its cell
 abbrev pub slot_bar : Scale → Visit → Bar
@@ -212,27 +213,34 @@ begin_spot s op = record { x = x_of s op.starts; y = y_of op.who + 44 }
 abbrev pub end_spot : Scale → Op Band → Spot
 end_spot s op = record { x = end_of s op.ends; y = y_of op.who + 44 }
 
--- the mark of the operation at this place, and the place
+-- the number by which the operation at a place is named: its line if it has one, else the place
+abbrev pub number_of : List ℕ → ℕ → ℕ
+number_of lines place = unwrap_or (slice_get lines place) place
+
+-- the mark of an operation, and its number
 abbrev pub named_text : Scale → ℕ → Option (Op Band) → List ℕ
-named_text s place None = []
-named_text s place (Some op) =
-    bar_text (bar_of class.Broken s op.who op.starts op.ends) ++ place_text place (place_spot s op)
+named_text s number None = []
+named_text s number (Some op) =
+    bar_text (bar_of class.Broken s op.who op.starts op.ends) ++ place_text number (place_spot s op)
 
 abbrev pub arrow_text : Scale → Option (Op Band) → Option (Op Band) → List ℕ
 arrow_text s None b = []
 arrow_text s (Some a) None = []
 arrow_text s (Some a) (Some b) = join_text Precedes (end_spot s a) (begin_spot s b)
 
--- an operation that precedes another, both with their places
-abbrev pub precedence_text : Scale → List (Op Band) → ℕ → ℕ → List ℕ
-precedence_text s ops m n = named_text s m (slice_get ops m) ++ named_text s n (slice_get ops n)
+abbrev pub one_text : Scale → List ℕ → List (Op Band) → ℕ → List ℕ
+one_text s lines ops place = named_text s (number_of lines place) (slice_get ops place)
 
-unfoldable pub reason_text : Scale → List (Op Band) → Reason → List ℕ
-reason_text s ops (reason.Unwritten read) = named_text s read (slice_get ops read)
-reason_text s ops (reason.Early read write) = precedence_text s ops read write
-reason_text s ops (reason.Stale before read) = precedence_text s ops before read
-reason_text s ops (reason.Crossed a b c d) = precedence_text s ops a b ++ precedence_text s ops c d
-reason_text s ops (reason.Limit refused) = named_text s refused (slice_get ops refused)
+-- an operation that precedes another, both with their numbers
+abbrev pub precedence_text : Scale → List ℕ → List (Op Band) → ℕ → ℕ → List ℕ
+precedence_text s lines ops m n = one_text s lines ops m ++ one_text s lines ops n
+
+unfoldable pub reason_text : Scale → List ℕ → List (Op Band) → Reason → List ℕ
+reason_text s lines ops (reason.Unwritten read) = one_text s lines ops read
+reason_text s lines ops (reason.Early read write) = precedence_text s lines ops read write
+reason_text s lines ops (reason.Stale before read) = precedence_text s lines ops before read
+reason_text s lines ops (reason.Crossed a b c d) = precedence_text s lines ops a b ++ precedence_text s lines ops c d
+reason_text s lines ops (reason.Limit refused) = one_text s lines ops refused
 
 -- an arrow from the end of an operation to the beginning of one that it precedes
 abbrev pub arrow_between : Scale → List (Op Band) → ℕ → ℕ → List ℕ
@@ -247,15 +255,24 @@ reason_arrows s ops (reason.Limit refused) = []
 
 -- ---- what is said of the history
 
-abbrev pub finding_words : Finding → List ℕ
-finding_words Lawful = lawful_words
-finding_words (Broken broken) = break_words broken
-finding_words (NoOrder why) = reason_words why
+-- a reason by the numbers of its operations
+abbrev pub numbered : List ℕ → Reason → Reason
+numbered lines (reason.Unwritten read) = reason.Unwritten (number_of lines read)
+numbered lines (reason.Early read write) = reason.Early (number_of lines read) (number_of lines write)
+numbered lines (reason.Stale before read) = reason.Stale (number_of lines before) (number_of lines read)
+numbered lines (reason.Crossed a b c d) =
+    reason.Crossed (number_of lines a) (number_of lines b) (number_of lines c) (number_of lines d)
+numbered lines (reason.Limit refused) = reason.Limit (number_of lines refused)
 
-abbrev pub finding_text : Scale → List (Op Band) → List ℕ → List ℕ → Finding → List ℕ
-finding_text s ops order points Lawful = []
-finding_text s ops order points (Broken broken) = break_text s ops order points broken
-finding_text s ops order points (NoOrder why) = reason_text s ops why
+abbrev pub finding_words : List ℕ → Finding → List ℕ
+finding_words lines Lawful = lawful_words
+finding_words lines (Broken broken) = break_words broken
+finding_words lines (NoOrder why) = reason_words (numbered lines why)
+
+abbrev pub finding_text : Scale → List ℕ → List (Op Band) → List ℕ → List ℕ → Finding → List ℕ
+finding_text s lines ops order points Lawful = []
+finding_text s lines ops order points (Broken broken) = break_text s ops order points broken
+finding_text s lines ops order points (NoOrder why) = reason_text s lines ops why
 
 -- arrows lie below the operations and their words
 abbrev pub arrows_text : Scale → List (Op Band) → Finding → List ℕ
@@ -288,8 +305,8 @@ frame_text lanes moments s count high ops terms =
 unfoldable pub order_shapes : Scale → List (Op Band) → List ℕ → List ℕ → List ℕ
 order_shapes s ops order points = joins_text s ops points 0 None order ++ points_text s ops points 0 order
 
-unfoldable pub end_text : Finding → List ℕ
-end_text finding = finding_words finding ++ codes "</svg>\n"
+unfoldable pub end_text : List ℕ → Finding → List ℕ
+end_text lines finding = finding_words lines finding ++ codes "</svg>\n"
 
 abbrev pub high_of : ℕ → ℕ
 high_of lanes = y_of lanes + 24
@@ -299,6 +316,6 @@ picture_of c =
     let s = scale_of c.history.ops in
     let count = lanes_of c.lanes c.history.ops in
     frame_text c.lanes c.moments s count (high_of count) c.history.ops (shown_terms c.lanes c.history.terms)
-    ++ arrows_text s c.history.ops c.finding ++ ops_text s c.stamps 0 c.history.ops
-    ++ flat_map (visit_text c.lanes s) c.visits ++ finding_text s c.history.ops c.order c.points c.finding
-    ++ order_shapes s c.history.ops c.order c.points ++ end_text c.finding
+    ++ arrows_text s c.history.ops c.finding ++ ops_text s c.stamps c.lines 0 c.history.ops
+    ++ flat_map (visit_text c.lanes s) c.visits ++ finding_text s c.lines c.history.ops c.order c.points c.finding
+    ++ order_shapes s c.history.ops c.order c.points ++ end_text c.lines c.finding

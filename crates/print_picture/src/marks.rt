@@ -21,13 +21,16 @@ pub fn push_ops(
     text: &mut Vec<u8>,
     scale: &Scale,
     stamps: &[Option<Stamp>],
+    lines: &[usize],
     ops: &[Op<Band>],
 ) -> Result<(), AllocError>
-    ensures { OnOk result (text.new.items ≡ text.old.items ++ ops_text scale.now stamps.now 0 ops.now) }
+    ensures { OnOk result (text.new.items ≡ text.old.items ++ ops_text scale.now stamps.now lines.now 0 ops.now) }
 {
-    let mut line = Line::new();
+    let mut words = Line::new();
     for place in 0..ops.len() {
-        push_op(text, &mut line, scale, stamp_at(stamps, place), &ops[place])?;
+        let stamp = stamp_at(stamps, place);
+        let line = line_at(lines, place);
+        push_op(text, &mut words, scale, stamp, line, &ops[place])?;
     }
     Ok(())
 }
@@ -35,31 +38,38 @@ pub fn push_ops(
 #[tactic(auto, unfolding(picture_shapes::specs::Shapes::op_shapes), using(std::proofs::Common::append_assoc))]
 fn push_op(
     text: &mut Vec<u8>,
-    line: &mut Line,
+    words: &mut Line,
     scale: &Scale,
     stamp: Option<Stamp>,
+    line: Option<usize>,
     op: &Op<Band>,
 ) -> Result<(), AllocError>
-    ensures { OnOk result (text.new.items ≡ text.old.items ++ op_shapes scale.now stamp op.now) }
+    ensures { OnOk result (text.new.items ≡ text.old.items ++ op_shapes scale.now stamp line op.now) }
 {
     let bar = bar_of(class_of(op.kind), scale, op.who, op.starts, op.ends);
-    line.clear();
-    put_bar(line, &bar);
-    text.extend_from_slice(line.as_bytes())?;
+    words.clear();
+    put_bar(words, &bar);
+    text.extend_from_slice(words.as_bytes())?;
     let x = scale.x_of(op.starts);
     let y = y_of(op.who);
-    line.clear();
-    put_kind_words(line, x, y + 14, op.kind, stamp);
-    text.extend_from_slice(line.as_bytes())?;
-    line.clear();
-    put_item_words(line, x, y + 28, op.item);
-    text.extend_from_slice(line.as_bytes())
+    words.clear();
+    put_kind_words(words, x, y + 14, op.kind, stamp, line);
+    text.extend_from_slice(words.as_bytes())?;
+    words.clear();
+    put_item_words(words, x, y + 28, op.item);
+    text.extend_from_slice(words.as_bytes())
 }
 
 fn stamp_at(stamps: &[Option<Stamp>], place: usize) -> Option<Stamp>
     ensures { result ≡ entry_at stamps.now place }
 {
     *stamps.get(place)?
+}
+
+pub fn line_at(lines: &[usize], place: usize) -> Option<usize>
+    ensures { result ≡ slice_get lines.now place }
+{
+    lines.get(place).copied()
 }
 
 pub fn push_visits(

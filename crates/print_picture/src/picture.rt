@@ -21,6 +21,7 @@ pub fn picture_text(alloc: Global, scene: &Scene) -> Result<Vec<u8>, AllocError>
     ensures { IfOk result (λ v. v.items ≡ picture_of scene.now) }
 {
     let ops = scene.history.ops.as_slice();
+    let lines = scene.lines.as_slice();
     let order = scene.order.as_slice();
     let points = scene.points.as_slice();
     let terms = shown_terms(scene.lanes, scene.history.terms.as_slice());
@@ -38,11 +39,11 @@ pub fn picture_text(alloc: Global, scene: &Scene) -> Result<Vec<u8>, AllocError>
         terms,
     )?;
     push_arrows(&mut text, &scale, ops, scene.finding)?;
-    push_ops(&mut text, &scale, scene.stamps.as_slice(), ops)?;
+    push_ops(&mut text, &scale, scene.stamps.as_slice(), lines, ops)?;
     push_visits(&mut text, scene.lanes, &scale, scene.visits.as_slice())?;
-    push_finding(&mut text, &scale, ops, order, points, scene.finding)?;
+    push_finding(&mut text, &scale, lines, ops, order, points, scene.finding)?;
     push_order(&mut text, &scale, ops, order, points)?;
-    push_end(&mut text, scene.finding)?;
+    push_end(&mut text, lines, scene.finding)?;
     Ok(text)
 }
 

@@ -3,11 +3,11 @@
 
 ghost use Rattle.std.specs.Prelude.{◌≡◌, ◌+◌, ◌≤◌, ◌++◌, OnOk, length, slice_get};
 ghost use Rattle.print_picture.specs.Picture.{arrow_between, arrow_text, begin_spot, both_words};
-ghost use Rattle.print_picture.specs.Picture.{crossed_words, end_spot, named_text};
+ghost use Rattle.print_picture.specs.Picture.{crossed_words, end_spot, named_text, number_of, numbered, one_text};
 ghost use Rattle.print_picture.specs.Picture.{place_spot, precedence_text};
 ghost use Rattle.print_picture.specs.Picture.{precedes_words, reason_arrows, reason_text, reason_words};
 
-use crate::marks::op_at;
+use crate::marks::{line_at, op_at};
 use history_core::{Band, Op, Reason};
 use picture_shapes::{
     Class, Join, Scale, Spot, bar_of, end_of, put_bar, put_first_words, put_join, put_last_words,
@@ -20,20 +20,21 @@ use std::alloc::AllocError;
 pub fn push_reason(
     text: &mut Vec<u8>,
     scale: &Scale,
+    lines: &[usize],
     ops: &[Op<Band>],
     reason: Reason,
 ) -> Result<(), AllocError>
-    ensures { OnOk result (text.new.items ≡ text.old.items ++ reason_text scale.now ops.now reason) }
+    ensures { OnOk result (text.new.items ≡ text.old.items ++ reason_text scale.now lines.now ops.now reason) }
 {
     match reason {
-        Reason::Unwritten { read } => push_named(text, scale, read, op_at(ops, read)),
-        Reason::Early { read, write } => push_precedence(text, scale, ops, read, write),
-        Reason::Stale { before, read } => push_precedence(text, scale, ops, before, read),
+        Reason::Unwritten { read } => push_one(text, scale, lines, ops, read),
+        Reason::Early { read, write } => push_precedence(text, scale, lines, ops, read, write),
+        Reason::Stale { before, read } => push_precedence(text, scale, lines, ops, before, read),
         Reason::Crossed { a, b, c, d } => {
-            push_precedence(text, scale, ops, a, b)?;
-            push_precedence(text, scale, ops, c, d)
+            push_precedence(text, scale, lines, ops, a, b)?;
+            push_precedence(text, scale, lines, ops, c, d)
         }
-        Reason::Limit { refused } => push_named(text, scale, refused, op_at(ops, refused)),
+        Reason::Limit { refused } => push_one(text, scale, lines, ops, refused),
     }
 }
 
@@ -42,27 +43,73 @@ pub fn push_reason(
 fn push_precedence(
     text: &mut Vec<u8>,
     scale: &Scale,
+    lines: &[usize],
     ops: &[Op<Band>],
     m: usize,
     n: usize,
 ) -> Result<(), AllocError>
-    ensures { OnOk result (text.new.items ≡ text.old.items ++ precedence_text scale.now ops.now m n) }
+    ensures { OnOk result (text.new.items ≡ text.old.items ++ precedence_text scale.now lines.now ops.now m n) }
 {
-    let a = op_at(ops, m);
-    let b = op_at(ops, n);
-    push_named(text, scale, m, a)?;
-    push_named(text, scale, n, b)
+    push_one(text, scale, lines, ops, m)?;
+    push_one(text, scale, lines, ops, n)
 }
 
-/// The mark of an operation, with its place.
+fn push_one(
+    text: &mut Vec<u8>,
+    scale: &Scale,
+    lines: &[usize],
+    ops: &[Op<Band>],
+    place: usize,
+) -> Result<(), AllocError>
+    ensures { OnOk result (text.new.items ≡ text.old.items ++ one_text scale.now lines.now ops.now place) }
+{
+    push_named(text, scale, number_of(lines, place), op_at(ops, place))
+}
+
+/// The number by which the operation at a place is named.
+fn number_of(lines: &[usize], place: usize) -> usize
+    ensures { result ≡ number_of lines.now place }
+{
+    line_at(lines, place).unwrap_or(place)
+}
+
+/// A reason by the numbers of its operations.
+pub fn numbered(lines: &[usize], reason: Reason) -> Reason
+    ensures { result ≡ numbered lines.now reason }
+{
+    match reason {
+        Reason::Unwritten { read } => Reason::Unwritten {
+            read: number_of(lines, read),
+        },
+        Reason::Early { read, write } => Reason::Early {
+            read: number_of(lines, read),
+            write: number_of(lines, write),
+        },
+        Reason::Stale { before, read } => Reason::Stale {
+            before: number_of(lines, before),
+            read: number_of(lines, read),
+        },
+        Reason::Crossed { a, b, c, d } => Reason::Crossed {
+            a: number_of(lines, a),
+            b: number_of(lines, b),
+            c: number_of(lines, c),
+            d: number_of(lines, d),
+        },
+        Reason::Limit { refused } => Reason::Limit {
+            refused: number_of(lines, refused),
+        },
+    }
+}
+
+/// The mark of an operation, with its number.
 #[tactic(auto, using(std::proofs::Common::append_assoc))]
 fn push_named(
     text: &mut Vec<u8>,
     scale: &Scale,
-    place: usize,
+    number: usize,
     op: Option<Op<Band>>,
 ) -> Result<(), AllocError>
-    ensures { OnOk result (text.new.items ≡ text.old.items ++ named_text scale.now place op) }
+    ensures { OnOk result (text.new.items ≡ text.old.items ++ named_text scale.now number op) }
 {
     let Some(op) = op else {
         return Ok(());
@@ -74,7 +121,7 @@ fn push_named(
     );
     text.extend_from_slice(line.as_bytes())?;
     line.clear();
-    put_place(&mut line, place, place_spot(scale, &op));
+    put_place(&mut line, number, place_spot(scale, &op));
     text.extend_from_slice(line.as_bytes())
 }
 

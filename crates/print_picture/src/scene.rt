@@ -28,6 +28,8 @@ pub struct Scene {
     pub finding: Finding,
     /// The stamps of the operations, where they have some.
     pub stamps: Items<Option<Stamp>>,
+    /// The lines of a log on which the operations stand, where they are known.
+    pub lines: Items<usize>,
     pub lanes: Lanes,
     pub visits: Items<Visit>,
 }

@@ -17,6 +17,12 @@ pub four_pieces : (start a b c d one two three four : List ℕ) → one ≡ star
 four_pieces start a b c d one two three four first second third fourth =
     fourth ∙ ap (λ (l : List ℕ). l ++ d) (three_pieces start a b c one two three first second third) ∙ append_assoc start (a ++ b ++ c) d
 
+pub five_pieces : (start a b c d e one two three four five : List ℕ) → one ≡ start ++ a → two ≡ one ++ b → three ≡ two ++ c
+    → four ≡ three ++ d → five ≡ four ++ e → five ≡ start ++ (a ++ b ++ c ++ d ++ e)
+five_pieces start a b c d e one two three four five first second third fourth fifth =
+    fifth ∙ ap (λ (l : List ℕ). l ++ e) (four_pieces start a b c d one two three four first second third fourth)
+    ∙ append_assoc start (a ++ b ++ c ++ d) e
+
 -- one piece more of those of a list
 pub one_more : {X : Type 0} (f : X → List ℕ) (start text new : List ℕ) (rest : List X) (i : ℕ) (d : X) → i < length rest
     → text ≡ start ++ flat_map f (take i rest) → new ≡ text ++ f (get_or rest i d) → new ≡ start ++ flat_map f (take (i + 1) rest)

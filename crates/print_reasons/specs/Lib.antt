@@ -1,3 +1,4 @@
+pub mod Counts
 pub mod KeptAt
 pub mod Lost
 pub mod Named

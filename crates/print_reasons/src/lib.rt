@@ -2,6 +2,7 @@
 //! line at which a log is lost, the lines of a window, or those of an operation that can't have found its record.
 #![tactic(auto)]
 
+mod counts;
 mod lost;
 mod named;
 mod sentence;
@@ -9,6 +10,7 @@ mod text;
 mod together;
 mod unsourced;
 
+pub use counts::{are_few, push_count, push_end, push_little};
 pub use lost::lost_text;
 pub use named::{in_kept, is_named, places_of};
 pub use sentence::{push_u64, push_words};

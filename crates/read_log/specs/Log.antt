@@ -1,7 +1,9 @@
 -- Documents of kind `log`: a history alone (this project's own).
 use Rattle.std.specs.Prelude.{◌≡◌, ℕ, List, [], ◌∷◌, codes, true, if◌then◌else◌, Result, Ok, Err}
+use Rattle.std.specs.Prelude.{option_and_then, unwrap_or}
 use Rattle.std.specs.List.{list_all}
 use Rattle.serde_json.specs.Data.{Data}
+use Rattle.serde_json.specs.Find.{get}
 use Rattle.history_core.specs.Band.{fits}
 use Rattle.history_core.specs.declared.band.Band.{Band}
 use Rattle.history_core.specs.declared.history.History.{History}
@@ -36,6 +38,11 @@ unfoldable pub log_of : List ℕ → Result (History Band) DocError
 log_of bytes = do
   d ← value_of bytes
   log_document d
+
+-- the lines on which the operations stand in a log in lines, if the document has whole numbers in an array under
+-- `lines`; else none is known
+abbrev pub lines_in : Data → List ℕ
+lines_in d = unwrap_or (option_and_then (as_list as_whole) (get (codes "lines") d)) []
 
 -- what an order is looked for of: a history with one term, whose operations are lawful
 pub record CanBeSearched (history : History Band) : Type 0 where

@@ -2,8 +2,10 @@
 //! search for a lawful order of it.
 #![tactic(auto)]
 
+mod lines;
 mod log;
 mod search;
 
+pub use lines::lines_in;
 pub use log::{log_document, read_log};
 pub use search::search_log;

@@ -1,8 +1,8 @@
-//! The words of an operation: its kind, its stamp and its record.
+//! The words of an operation: its kind, its stamp, its line and its record.
 
 ghost use Rattle.std.specs.Prelude.{◌≡◌, ◌+◌, ◌≤◌, ◌++◌, length};
 ghost use Rattle.print_report.specs.Lines.{kind_text};
-ghost use Rattle.picture_shapes.specs.Shapes.{item_words, kind_words, stamp_words, words_head};
+ghost use Rattle.picture_shapes.specs.Shapes.{item_words, kind_words, line_words, stamp_words, words_head};
 
 use history_core::{Band, Kind};
 use matrix_core::Stamp;
@@ -21,14 +21,34 @@ pub fn put_words_head(line: &mut Line, x: u64, y: u64)
 }
 
 #[tactic(auto, unfolding(crate::specs::Shapes::kind_words), using(std::proofs::Common::append_assoc))]
-pub fn put_kind_words(line: &mut Line, x: u64, y: u64, kind: Kind, stamp: Option<Stamp>)
-    requires { length line.old ≡ 0 }
-    ensures { line.new ≡ kind_words x y kind stamp ++ line.old }
+pub fn put_kind_words(
+    text: &mut Line,
+    x: u64,
+    y: u64,
+    kind: Kind,
+    stamp: Option<Stamp>,
+    line: Option<usize>,
+)
+    requires { length text.old ≡ 0 }
+    ensures { text.new ≡ kind_words x y kind stamp line ++ text.old }
 {
-    line.put(b"</text>\n");
-    put_stamp_words(line, stamp);
-    put_kind(line, kind);
-    put_words_head(line, x, y);
+    text.put(b"</text>\n");
+    put_line_words(text, line);
+    put_stamp_words(text, stamp);
+    put_kind(text, kind);
+    put_words_head(text, x, y);
+}
+
+#[tactic(auto, using(std::proofs::Common::append_assoc))]
+fn put_line_words(text: &mut Line, line: Option<usize>)
+    requires { length text.old + 30 ≤ 256 }
+    ensures text { text.new ≡ line_words line ++ text.old }
+    ensures len { length text.new ≤ length text.old + 30 }
+{
+    if let Some(line) = line {
+        text.put_number(line as u64);
+        text.put(b" ");
+    }
 }
 
 #[tactic(auto, using(std::proofs::Common::append_assoc))]

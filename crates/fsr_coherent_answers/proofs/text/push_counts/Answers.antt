@@ -1,8 +1,8 @@
 -- The counts stand behind each other, and the end behind them.
 use Rattle.std.proofs.Common.{◌∙◌, ◌++◌, ap, codes}
 use Rattle.std.proofs.lemmas.Result.{on_ok_weaker}
-use Rattle.fsr_order_answers.specs.Text.{count_text}
-use Rattle.fsr_coherent_answers.proofs.PieceLemmas.{five_pieces}
+use Rattle.print_reasons.specs.Counts.{count_text}
+use Rattle.print_reasons.proofs.CountLemmas.{five_pieces}
 use Rattle.fsr_coherent_answers.proofs.text.push_counts.Goals as goal
 
 pub returns : goal.returns
