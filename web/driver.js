@@ -11,10 +11,12 @@ const COMMANDS = {
   "picture": { call: "nidzaru_picture", words: [], program: "picture" },
 };
 const OUT_OF_MEMORY = 4;
+// the longest document that isn't in lines
+const LONGEST = 1048576;
 
 // The bytes that an answer may have at first, before it is asked for again with a buffer that is large enough.
 function firstRoom(command, length) {
-  if (command === "picture") return 65536 + 16 * length;
+  if (command === "picture") return 65536 + 16 * Math.min(length, LONGEST);
   return command === "order --order" ? 65536 + length : 65536;
 }
 

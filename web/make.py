@@ -1,10 +1,11 @@
 """Builds the page: one HTML file with the modules, the examples, the page docs/stepper.html and all that it runs.
 
-    make.py [--over PART] [--anew] [OUT]      OUT: the file, out/nidzaru.html if none is named
-    make.py [--over PART] [--anew] --cell [OUT]     the module alone that steps a cell, in docs/stepper.html or the page OUT like it
+    make.py [--over PART] [--anew | --kept] [OUT]      OUT: the file, out/nidzaru.html if none is named
+    make.py [--over PART] [--anew] --cell [OUT]        the module alone that steps a cell, in docs/stepper.html or the page OUT like it
 
-The libraries below the page's are proved and built first, unless PART names a part of their folders `out/` in which they are built.
-What was built of the same files is taken from out/page, unless it is to be built anew.
+The modules are those of docs/nidzaru.html, if they were built of the files that lie here, or those that are kept in out/page; else they are
+built, and the libraries below are proved and built first, unless PART names a part of their folders `out/` in which they are built. With
+--anew all is proved and built; with --kept nothing is.
 """
 
 import argparse
@@ -14,6 +15,7 @@ import hashlib
 import json
 import os
 import re
+import shutil
 import subprocess
 import sys
 import tempfile
@@ -23,8 +25,12 @@ from module import CELL, CRATE, TOP, Refused, crates_below, read_rows
 
 HERE = os.path.dirname(os.path.realpath(__file__))
 PARTS = {"STYLE": "page.css", "DRIVER": "driver.js", "WORKER": "worker.js", "SCRIPT": "page.js"}
-STEPPER = f"{TOP}/docs/stepper.html"
+PAGE, STEPPER = f"{TOP}/docs/nidzaru.html", f"{TOP}/docs/stepper.html"
 IN_STEPPER = re.compile(r'(<script type="text/plain" id="module">\n)(.*?)(</script>)', re.S)
+# What the page says of its modules: of which files each crate's were built, the modules themselves, and the prover's line.
+IN_PAGE = re.compile(r'<meta name="built-of" data-crate="(\w+)" content="(\w+)">')
+MODULE = '<script type="text/plain" id="{}" data-sum="(\\w+)">(.*?)</script>'
+VERDICT = re.compile(r"The prover's line: <code>(.*?)</code>")
 # What is kept of a build, by the crate.
 KEPT = {CRATE: ("wide.wasm", "narrow.wasm", "refuses.wasm", "shallow.wasm", "stack_128.wasm", "verdict"), CELL: ("cell.wasm",)}
 # the commands that a page can run, as its list has them; a race needs threads
@@ -53,6 +59,15 @@ def packed(wasm):
     return base64.b64encode(gzip.compress(wasm, 9, mtime=0)).decode()
 
 
+def unpacked(text, name):
+    """The module of this name in the text of a page."""
+    wanted, letters = re.search(MODULE.format(name), text).groups()
+    wasm = gzip.decompress(base64.b64decode(letters))
+    if hashlib.sha256(wasm).hexdigest() != wanted:
+        raise Refused(f"{PAGE} is damaged: its module isn't the one of its sum")
+    return wasm
+
+
 def stepper(cell):
     """The text of docs/stepper.html with this module."""
     text, letters = read(STEPPER), base64.b64encode(cell).decode()
@@ -69,6 +84,7 @@ def page(made):
     for mark, name in (("WIDE", "wide.wasm"), ("NARROW", "narrow.wasm")):
         parts |= {mark: packed(made[name]), f"{mark}_SUM": hashlib.sha256(made[name]).hexdigest()}
     parts["VERDICT"] = made["verdict"].decode()
+    parts["BUILT_OF"] = "\n".join(f'<meta name="built-of" data-crate="{it}" content="{sum_of_files(it)}">' for it in (CRATE, CELL))
     for mark, what in (("EXAMPLES", examples()), ("STEPPER", stepper(made["cell.wasm"]))):
         parts[mark] = json.dumps(what, ensure_ascii=False).replace("<", "\\u003c")
     for mark in ("STYLE", "DRIVER", "WORKER", "SCRIPT"):
@@ -77,12 +93,13 @@ def page(made):
     return re.sub(r"@@(\w+)@@", lambda it: parts[it[1]], read(f"{HERE}/page.html"))
 
 
-def sum_of_sources(kit, crate):
-    """Of all that this crate's modules are made of."""
-    lowers = module.run("wasm-opt", "--version")
-    found = hashlib.sha256("".join([read(f"{kit}/KIT-ID"), lowers, read(f"{TOP}/crates.txt")]).encode())
+def sum_of_files(crate):
+    """Of the files here that this crate's modules are made of."""
+    rows = read_rows(TOP)
+    crates = [*crates_below(rows, crate), crate]
+    found = hashlib.sha256("".join(rows[it][0] for it in crates).encode())
     names = [f"{HERE}/heap.c", f"{HERE}/module.py"]
-    for it in [*crates_below(read_rows(TOP), crate), crate]:
+    for it in crates:
         for part in ("src", "specs", "proofs"):
             for at, _, files in os.walk(f"{TOP}/crates/{it}/{part}"):
                 names += [f"{at}/{name}" for name in files if not name.startswith(".")]
@@ -92,8 +109,23 @@ def sum_of_sources(kit, crate):
     return found.hexdigest()
 
 
+def sum_of_build(kit, crate):
+    """Of all that this crate's modules are made of, the tools among it."""
+    return hashlib.sha256("".join([read(f"{kit}/KIT-ID"), module.run("wasm-opt", "--version"), sum_of_files(crate)]).encode()).hexdigest()
+
+
+def read_page(crate):
+    """What docs/nidzaru.html has of this crate, if that was built of the files that lie here, or None."""
+    text = read(PAGE) if os.path.exists(PAGE) else ""
+    if dict(IN_PAGE.findall(text)).get(crate) != sum_of_files(crate):
+        return None
+    if crate == CELL:
+        return {"cell.wasm": base64.b64decode(IN_STEPPER.search(read(STEPPER))[2])}
+    return {"wide.wasm": unpacked(text, "wide"), "narrow.wasm": unpacked(text, "narrow"), "verdict": VERDICT.search(text)[1].encode()}
+
+
 def read_kept(kept, crate, wanted):
-    """What was built of this crate of the same files, or None."""
+    """What was built of this crate by the same tools of the same files, or None."""
     try:
         if read(f"{kept}/{crate}.sum") != wanted:
             return None
@@ -113,23 +145,41 @@ def built(kit, crate, part):
         return module.make_cell(kit, room, part) if crate == CELL else module.make_modules(kit, room, part)
 
 
-def modules(kit, crates, asked):
-    """By their names the modules of these crates and the prover's line, as they were kept or made anew."""
-    made, kept, part = {}, f"{TOP}/out/page", asked.over
+def see_tools():
+    """Sees that what builds the modules is there."""
+    if not shutil.which("rt"):
+        raise Refused("the Rattle toolchain's command rt isn't on the PATH")
+    if not shutil.which("wasm-opt"):
+        raise Refused("there is no wasm-opt, of the package binaryen: apt-get install binaryen")
+
+
+def build(crate, asked):
+    """By their names the modules of this crate and the prover's line, as they were kept or made anew."""
+    see_tools()
+    kit, kept = module.kit_folder(), f"{TOP}/out/page"
+    wanted = sum_of_build(kit, crate)
+    found = None if asked.anew else read_kept(kept, crate, wanted)
+    if found is None:
+        if asked.over is None:
+            below = [it for it in read_rows(TOP)[crate][1] if os.path.isdir(f"{TOP}/crates/{it}")]
+            if subprocess.run([sys.executable, f"{TOP}/build/build.py", *below], check=False).returncode:
+                raise Refused("the libraries below aren't built")
+        found = built(kit, crate, asked.over or "stated")
+        os.makedirs(kept, exist_ok=True)
+        for name, what in {**found, f"{crate}.sum": wanted.encode()}.items():
+            with open(f"{kept}/{name}", "wb") as file:
+                file.write(what)
+    return found
+
+
+def modules(crates, asked):
+    """By their names the modules of these crates and the prover's line."""
+    made = {}
     for crate in crates:
-        wanted = sum_of_sources(kit, crate)
-        found = None if asked.anew else read_kept(kept, crate, wanted)
-        if found is None:
-            if part is None:
-                below = [it for it in read_rows(TOP)[crate][1] if os.path.isdir(f"{TOP}/crates/{it}")]
-                if subprocess.run([sys.executable, f"{TOP}/build/build.py", *below], check=False).returncode:
-                    raise Refused("the libraries below aren't built")
-            found = built(kit, crate, part or "stated")
-            os.makedirs(kept, exist_ok=True)
-            for name, what in {**found, f"{crate}.sum": wanted.encode()}.items():
-                with open(f"{kept}/{name}", "wb") as file:
-                    file.write(what)
-        made |= found
+        found = None if asked.anew else read_page(crate)
+        if found is None and asked.kept:
+            raise Refused(f"{os.path.relpath(PAGE, TOP)} has modules of other files than lie here: run ./page docs/nidzaru.html")
+        made |= found or build(crate, asked)
     return made
 
 
@@ -142,12 +192,14 @@ def write(path, text):
 def main():
     words = argparse.ArgumentParser(prog="page", description="Builds the page: the proved checker, player and pictures in one HTML file.")
     words.add_argument("--over", metavar="PART", help="take the libraries as they are built in this part of their folders out/")
-    words.add_argument("--anew", action="store_true", help="take no module that was built before")
+    kept = words.add_mutually_exclusive_group()
+    kept.add_argument("--anew", action="store_true", help="take no module that was built before: prove and build all")
+    kept.add_argument("--kept", action="store_true", help="take the modules of docs/nidzaru.html, and build none")
     words.add_argument("--cell", action="store_true", help="build docs/stepper.html alone, with the module that steps a cell")
     words.add_argument("out", nargs="?", help="the file, out/nidzaru.html if none is named")
     asked = words.parse_args()
     try:
-        made = modules(module.kit_folder(), (CELL,) if asked.cell else (CRATE, CELL), asked)
+        made = modules((CELL,) if asked.cell else (CRATE, CELL), asked)
         out, text = (STEPPER, stepper(made["cell.wasm"])) if asked.cell else (f"{TOP}/out/nidzaru.html", page(made))
     except (Refused, OSError) as fault:
         print(f"page: it isn't built: {fault}", file=sys.stderr)

@@ -1,7 +1,13 @@
 "use strict";
 const $ = id => document.getElementById(id);
-// a longer document isn't put into the text field whole, nor a longer answer below it
+// a longer document isn't put into the text field whole
 const MOST_SHOWN = 200000;
+// nor a longer answer below the verdict, as the browser needs a while for it
+const MOST_PRINTED = 20000;
+// a picture of more bytes is drawn only if that is asked for
+const MOST_DRAWN = 60000;
+// a smaller picture can't be read, so it isn't made smaller to fit
+const LEAST_FIT = 0.6;
 // of a longer document this much is shown
 const FRONT = 40000;
 // such pieces of it are read in which a line is looked for
@@ -18,10 +24,13 @@ const WORDS = {
   "play": ["Played"],
   "picture": ["Drawn", "Drawn: it isn't lawful"],
 };
+// What it means that an order is lawful.
+const GIVES = "gives all these answers, and in it no operation stands before one that had ended when it began.";
+const MEANS = { "check": `It ${GIVES}`, "order": `Some order ${GIVES}`, "order --order": `Some order ${GIVES}` };
 const ENDS = { 3: "Refused: nothing is said of its operations", 4: "Out of memory", 7: "No verdict" };
 const BOUNDS = { "64 MB": 2 ** 26, "256 MB": 2 ** 28, "1 GB": 2 ** 30, "4 GB": 2 ** 32, "12 GB": 12 * 2 ** 30 };
-// The regions of an answer whose numbers are lines or operations of the document.
-const NAMED = /\blines? \d+(?: and \d+)?|\boperations? \d+(?:(?: and| precedes) \d+)*|^(?:unlawful \w+|order:|writes:)(?: \d+)+/gim;
+// The regions of an answer whose numbers are lines, operations or entries of the order of the document.
+const NAMED = /\blines? \d+(?:(?:,| and) \d+)*|\boperations? \d+(?:(?: and| precedes) \d+)*|\bentry \d+|^(?:unlawful \w+|order:|writes:)(?: \d+)+/gim;
 
 // -- the module and its worker --
 
@@ -35,7 +44,14 @@ async function unpacked(id) {
   return new Uint8Array(await new Response(new Blob([bytes]).stream().pipeThrough(new DecompressionStream("gzip"))).arrayBuffer());
 }
 
-const state = { worker: null, module: null, number: 0, running: false, began: 0, file: null, first: 1, kind: "", zoom: 1, picture: null };
+// Of the run; then the file that is answered in place of the text, the first of its lines that is shown, and how many
+// documents came in; what the address had when it was looked at last, and the document's link; and of what is shown.
+const state = {
+  worker: null, module: null, number: 0, running: false, began: 0, kind: "",
+  file: null, first: 1, turn: 0,
+  hash: "", link: "#",
+  zoom: 1, picture: null, whole: null,
+};
 
 // Whether a module is the one of this page's build. (A page that came by http can't tell.)
 async function isOfBuild(id, bytes) {
@@ -118,6 +134,7 @@ function tick(phase) {
     if (seconds < 0.3) return;
     const title = `${phase[0].toUpperCase()}${phase.slice(1)} ..`;
     if ($("stop").hidden) announce(title);
+    $("answered").hidden = $("figure").hidden = true;
     putVerdict("", title, "", `${seconds.toFixed(1)} s`);
     $("stop").hidden = $("progress").hidden = false;
   };
@@ -169,38 +186,69 @@ function tell(kind, title, sentence, facts = "") {
 
 const inUnits = (number, unit) => `${number.toFixed(number < 10 ? 1 : 0)} ${unit}`;
 const sizeOf = bytes => (bytes < 1e3 ? `${bytes} bytes` : bytes < 1e6 ? inUnits(bytes / 1e3, "kB") : inUnits(bytes / 1e6, "MB"));
-const timeOf = ms => (ms < 1e3 ? inUnits(ms, "ms") : inUnits(ms / 1e3, "s"));
+const timeOf = ms => (ms < 1 ? "less than 1 ms" : ms < 1e3 ? inUnits(ms, "ms") : inUnits(ms / 1e3, "s"));
 
-// What an answer to a log in lines says beside its verdict: what is wrong, or how little the log shows.
-const SAYS = /^(Lines? \d|Up to the end of line \d|From time \d|(Little|Nothing) was shown)/;
+// What an answer to a log in lines says in words: what is wrong, or how little the log shows.
+const SAYS = /^[A-Z]/;
+
+// The lines of a group that has no order, which its sentence calls these.
+function namesThese(first) {
+  const [, numbers] = /^unlawful together ([\d ]+)$/.exec(first) || [];
+  return numbers ? ` These are lines ${numbers.replace(/ (?=\d+$)/, " and ").replace(/(\d) (?=\d)/g, "$1, ")}.` : "";
+}
 
 // The sentence of an answer: the program's own, where it prints one, else that of the picture.
-function sentenceOf(data, text) {
+function sentenceOf(data, text, lines) {
   if (data.kind === "race") return `${text.trim()}. A race needs threads, which a page hasn't: ./fsr race runs it.`;
-  if (data.status > 1) return text;
-  const lines = text.split("\n").filter(it => it);
-  const own = data.kind === "lines" && data.command !== "order --small" ? lines.find(it => SAYS.test(it)) : undefined;
-  const svg = data.picture && data.picture.of === "document" ? new TextDecoder().decode(data.picture.svg) : "";
+  if (data.status > 1) return data.fault ? `${text.trim()}. ${data.fault}` : text;
+  const own = data.kind === "lines" && data.command !== "order --small" ? lines.filter(it => SAYS.test(it)).join(" ") : "";
+  if (own) return own + namesThese(lines[0]);
+  if (data.status === 0) return MEANS[data.command] || "";
+  if (data.command === "order --small" && data.kind === "lines") return "";
+  const svg = data.picture && data.picture.of === "document" ? new TextDecoder().decode(data.picture.svg.subarray(0, 4000)) : "";
   const drawn = /<text class="z" x="8" y="24">([^<]*)/.exec(svg);
-  const first = data.command === "picture" || data.command === "play" || data.command === "order --small" ? "" : lines[0] || "";
-  return own || (drawn ? drawn[1].replace(/&lt;/g, "<").replace(/&gt;/g, ">").replace(/&amp;/g, "&") : first);
+  return drawn ? drawn[1].replace(/&lt;/g, "<").replace(/&gt;/g, ">").replace(/&amp;/g, "&") : lines[0] || "";
 }
+
+// Leads to the part of the page that tells how a log is written.
+function leadsToForm() {
+  const button = document.createElement("button");
+  button.className = "to";
+  button.textContent = "How a log is written";
+  button.onclick = () => {
+    $("form").parentElement.open = true;
+    $("form").focus();
+    $("form").parentElement.scrollIntoView({ block: "nearest" });
+  };
+  return button;
+}
+
+const isKind = kind => ["lines", "log", "check", "cell", "matrix", "board", "race"].includes(kind);
 
 function answer(data) {
+  if (!data.length) {
+    show({});
+    return tell("", "There is no document yet", ["Drop a log, paste or type one, or take an example. ", leadsToForm()]);
+  }
   const text = new TextDecoder().decode(data.text);
   state.kind = data.kind;
-  const counts = (data.kind === "lines" && data.status <= 1 && /^\d+ operations, .*$/m.exec(text)) || [""];
+  const lines = text.split("\n").filter(it => it);
+  const tells = data.kind === "lines" && data.status <= 1 && data.command !== "order --small";
+  const [counts, key] = [/^\d+ operations, /, /^key: /].map(start => (tells && lines.find(it => start.test(it))) || "");
   const spent = [timeOf(data.took), `${sizeOf(data.memory)} of memory`, `document of ${sizeOf(data.length)}`];
-  const facts = [`${data.command}, status ${data.status}`, counts[0], ...spent].filter(it => it).join(" \u00b7 ");
+  const register = data.status === 1 ? key.slice(0, 100) : "";
+  const facts = [`${data.command}, status ${data.status}`, register, counts, ...spent].filter(it => it).join(" \u00b7 ");
   const title = data.status <= 1 ? WORDS[data.command][data.status] : ENDS[data.status] || `Status ${data.status}`;
-  tell(["good", "bad"][data.status] || "odd", title, linked(sentenceOf(data, text)), facts);
+  const sentence = linked(sentenceOf(data, text, lines));
+  if (data.status === 3 && (data.kind === "lines" || !isKind(data.kind))) sentence.push(" ", leadsToForm());
+  tell(["good", "bad"][data.status] || "odd", title, sentence, facts);
   $("printer").textContent = `What ${data.command === "picture" ? "picture" : `fsr ${data.command}`} prints`;
-  show({ text: data.command === "picture" && data.status <= 1 ? "" : text, picture: data.picture });
+  return show({ text: data.command === "picture" && data.status <= 1 ? "" : text, bytes: data.text, picture: data.picture });
 }
 
-function show({ text, picture }) {
+function show({ text, bytes, picture }) {
   $("answered").hidden = !text;
-  if (text) $("printed").replaceChildren(...linked(text.length > MOST_SHOWN ? `${text.slice(0, MOST_SHOWN)}\n(cut here)` : text));
+  if (text) showPrinted(text, bytes);
   $("figure").hidden = !picture;
   if (state.picture) URL.revokeObjectURL(state.picture);
   state.picture = null;
@@ -209,8 +257,29 @@ function show({ text, picture }) {
     return;
   }
   state.picture = URL.createObjectURL(new Blob([picture.svg], { type: "image/svg+xml" }));
+  $("save").href = state.picture;
   const captions = { small: "The verdict's lines, by the ranks of their times", document: "The document's picture" };
-  $("caption").textContent = captions[picture.of];
+  const isLarge = picture.svg.length > MOST_DRAWN;
+  $("caption").textContent = captions[picture.of] + (isLarge ? ` has ${sizeOf(picture.svg.length)}, so it takes a while to draw` : "");
+  $("canvas").hidden = $("zoom").hidden = isLarge;
+  $("draw").hidden = !isLarge;
+  if (isLarge) document.body.dataset.ready = "yes";
+  else draw();
+}
+
+// Shows what a program printed, or the front of it and a link to all.
+function showPrinted(text, bytes) {
+  const isLong = text.length > MOST_PRINTED;
+  $("printed").replaceChildren(...linked(isLong ? `${text.slice(0, MOST_PRINTED)}\n(cut here)` : text));
+  if (state.whole) URL.revokeObjectURL(state.whole);
+  state.whole = isLong ? URL.createObjectURL(new Blob([bytes], { type: "text/plain" })) : null;
+  $("whole").hidden = !isLong;
+  if (isLong) $("whole").href = state.whole;
+}
+
+function draw() {
+  $("canvas").hidden = $("zoom").hidden = false;
+  $("draw").hidden = true;
   $("picture").onload = () => {
     zoom("fit");
     document.body.dataset.ready = "yes";
@@ -219,14 +288,18 @@ function show({ text, picture }) {
     $("figure").hidden = true;
     document.body.dataset.ready = "yes";
   };
-  $("picture").src = $("save").href = state.picture;
+  $("picture").src = state.picture;
   $("picture").alt = `Picture: ${$("title").textContent}. ${$("sentence").textContent}`;
 }
 
+// Makes the picture larger or smaller; what stands in its middle stays there.
 function zoom(by) {
-  const image = $("picture"), room = $("canvas").clientWidth - 14;
-  state.zoom = by === "fit" ? Math.min(1, room / image.naturalWidth) : Math.min(8, Math.max(0.05, state.zoom * by));
+  const image = $("picture"), canvas = $("canvas"), room = canvas.clientWidth - 14;
+  const middle = (canvas.scrollLeft + room / 2) / state.zoom;
+  if (by === "fit") canvas.scrollLeft = 0;
+  state.zoom = by === "fit" ? Math.min(1, Math.max(LEAST_FIT, room / image.naturalWidth)) : Math.min(8, Math.max(0.05, state.zoom * by));
   image.style.width = `${Math.round(image.naturalWidth * state.zoom)}px`;
+  if (by !== "fit") canvas.scrollLeft = middle * state.zoom - room / 2;
 }
 
 // A text whose numbers of lines and operations lead to the document.
@@ -242,8 +315,9 @@ function linked(text) {
       const button = document.createElement("button");
       button.className = "to";
       button.textContent = number[0];
-      button.title = `Show ${unit} ${number[0]} of the document`;
-      button.onclick = () => mark(unit, Number(number[0]));
+      const what = region[0].startsWith("entry") ? "entry" : unit;
+      button.title = `Show ${what} ${number[0]} of the document`;
+      button.onclick = () => mark(what, Number(number[0]));
       found.push(text.slice(at, place), button);
       at = place + number[0].length;
     }
@@ -295,44 +369,84 @@ async function turnTo(file, number) {
   return true;
 }
 
+// Shows a file from some bytes before this operation on, and gives where it stands in what is shown.
+async function turnToOperation(file, number) {
+  const text = await file.text(), place = operationAt(text, number);
+  if (state.file !== file || !place) return null;
+  const begin = Math.max(0, place[0] - 200);
+  $("text").value = text.slice(begin, Math.max(place[1], begin + FRONT));
+  $("name").textContent = `${file.name}, ${sizeOf(file.size)}: shown around operation ${number}, and the whole file is answered`;
+  return place.map(it => it - begin);
+}
+
+// Where the operation is listed in the document's order at this place, from 0.
+async function placeOfEntry(number) {
+  try {
+    const { order } = JSON.parse($("text").readOnly ? await state.file.text() : $("text").value);
+    return await placeOf("operation", order[number]);
+  } catch {
+    return null;
+  }
+}
+
+async function placeOf(unit, number) {
+  const field = $("text"), isPart = field.readOnly;
+  if (unit === "entry") return placeOfEntry(number);
+  if (unit === "operation") return isPart ? turnToOperation(state.file, number) : operationAt(field.value, number);
+  const place = lineAt(field.value, number - state.first + 1);
+  if (place || !isPart || !(await turnTo(state.file, number))) return place;
+  return lineAt(field.value, number - state.first + 1);
+}
+
+// Selects a line or an operation in the text field, and scrolls to it.
 async function mark(unit, number) {
-  const field = $("text"), find = unit === "line" ? (text, line) => lineAt(text, line - state.first + 1) : operationAt;
-  let place = find(field.value, number);
-  if (!place && state.file && unit === "line" && (await turnTo(state.file, number))) place = find(field.value, number);
+  const place = await placeOf(unit, number), field = $("text");
   if (!place) return;
-  const text = field.value;
   field.focus();
   field.setSelectionRange(...place);
-  const lines = text.slice(0, place[0]).split("\n").length;
-  field.scrollTop = Math.max(0, lines - 4) * parseFloat(getComputedStyle(field).lineHeight);
-  field.scrollLeft = 0;
+  const before = field.value.slice(0, place[0]).split("\n"), style = getComputedStyle(field);
+  const pen = document.createElement("canvas").getContext("2d");
+  pen.font = style.font;
+  field.scrollTop = Math.max(0, before.length - 4) * parseFloat(style.lineHeight);
+  field.scrollLeft = Math.max(0, pen.measureText(before[before.length - 1]).width - 100);
 }
 
 // -- how a document comes in --
 
-function put(text, name) {
+function put(text, name, link = "#") {
+  state.turn++;
   state.file = null;
   state.first = 1;
   $("text").readOnly = false;
   $("text").value = text;
   $("name").textContent = name || "";
+  hold(link);
   for (const it of document.querySelectorAll("#examples button")) it.setAttribute("aria-current", String(it.dataset.name === name));
 }
 
-async function take(file) {
-  const isLong = file.size > MOST_SHOWN;
-  let text;
+const areSame = (some, others) => some.length === others.length && some.every((it, at) => it === others[at]);
+
+// Takes a file: the bytes that it has are answered, though the text field may show them otherwise, such as the ends of
+// lines, until one types.
+async function take(file, { command = "", link = "#", others = "" } = {}) {
+  const turn = ++state.turn, isLong = file.size > MOST_SHOWN;
+  let bytes;
   try {
-    text = await (isLong ? file.slice(0, FRONT) : file).text();
+    bytes = new Uint8Array(await (isLong ? file.slice(0, FRONT) : file).arrayBuffer());
   } catch (error) {
-    return unread(error);
+    return turn === state.turn ? unread(error) : undefined;
   }
-  put(text, isLong ? `${file.name}, ${sizeOf(file.size)}: only the front is shown, and the whole file is answered` : file.name);
-  if (isLong) {
-    $("text").readOnly = true;
-    state.file = file;
-  }
-  $("command").value = "";
+  // (another document came in while this one was read)
+  if (turn !== state.turn) return undefined;
+  openPanel("log");
+  const front = isLong ? `${sizeOf(file.size)}: only the front is shown, and the whole file is answered` : "";
+  put(new TextDecoder().decode(bytes), [file.name, others, front].filter(it => it).join(", "), link);
+  $("text").readOnly = isLong;
+  if (isLong) state.file = file;
+  else if (!areSame(new TextEncoder().encode($("text").value), bytes)) state.file = new File([bytes], file.name);
+  $("command").value = command;
+  if ($("command").selectedIndex < 0) $("command").value = "";
+  requestAnimationFrame(() => $("verdict").scrollIntoView({ block: "nearest" }));
   return ask();
 }
 
@@ -345,7 +459,7 @@ function isExample() {
 // A text that is too long for the text field, a file, and what is pasted elsewhere than into the field or over an example.
 function paste(event) {
   const [file] = event.clipboardData.files, text = event.clipboardData.getData("text");
-  const joins = event.target === $("text") && !state.file && !isExample();
+  const joins = event.target === $("text") && !$("text").readOnly && !isExample();
   if (!file && (!text || (joins && text.length <= MOST_SHOWN))) return undefined;
   event.preventDefault();
   return take(file || new File([text], "pasted"));
@@ -354,27 +468,34 @@ function paste(event) {
 function drop(event) {
   event.preventDefault();
   $("drop").classList.remove("over");
-  const file = event.dataTransfer.files[0], text = event.dataTransfer.getData("text");
-  if (file) return take(file);
-  if (!text) return undefined;
-  put(text, "dropped");
-  return ask();
+  const files = [...event.dataTransfer.files], text = event.dataTransfer.getData("text");
+  const others = files.length > 1 ? `the first of ${files.length} files that were dropped` : "";
+  return files[0] || text ? take(files[0] || new File([text], "dropped"), { others }) : undefined;
 }
 
 // -- links that hold a document --
 
 const packed = async (bytes, how) => new Uint8Array(await new Response(new Blob([bytes]).stream().pipeThrough(how)).arrayBuffer());
 
+const LINK = /^#(?!steps:)([\w-]*):([\w-]+)$/;
+
+// Has the address hold this link, and no other document's.
+function hold(link) {
+  state.link = link;
+  if (link === "#" && !LINK.test(location.hash)) return;
+  history.replaceState(null, "", link);
+  state.hash = location.hash;
+}
+
 async function link() {
-  const text = $("text").value;
-  if (state.file || text.length > MOST_LINKED) {
+  if ((state.file ? state.file.size : $("text").value.length) > MOST_LINKED) {
     $("name").textContent = `A link holds at most ${MOST_LINKED} characters.`;
     return;
   }
-  const bytes = await packed(new TextEncoder().encode(text), new CompressionStream("deflate-raw"));
-  const letters = btoa(String.fromCharCode(...bytes)).replace(/\+/g, "-").replace(/\//g, "_").replace(/=/g, "");
-  history.replaceState(null, "", `#${$("command").value.replace(" ", "_")}:${letters}`);
-  state.hash = location.hash;
+  const whole = state.file ? new Uint8Array(await state.file.arrayBuffer()) : new TextEncoder().encode($("text").value);
+  const bytes = await packed(whole, new CompressionStream("deflate-raw"));
+  const letters = btoa(Array.from(bytes, it => String.fromCharCode(it)).join("")).replace(/\+/g, "-").replace(/\//g, "_").replace(/=/g, "");
+  hold(`#${$("command").value.replace(" ", "_")}:${letters}`);
   try {
     await navigator.clipboard.writeText(location.href);
     $("name").textContent = "The link is copied, and stands in the address.";
@@ -385,22 +506,22 @@ async function link() {
 
 // Takes the document of a link, or the steps, if the address has one, and says whether it had a document.
 async function follow() {
-  const steps = /^#steps:([wr]*)$/.exec(location.hash);
-  if (steps && location.hash !== state.hash) openPanel("mechanism", steps[1]);
-  const found = /^#([\w-]*):([\w-]+)$/.exec(location.hash);
-  if (!found || location.hash === state.hash) return false;
-  state.hash = location.hash;
+  const link = location.hash;
+  if (link === state.hash) return false;
+  state.hash = link;
+  const steps = /^#steps:([wr]*)$/.exec(link), found = LINK.exec(link);
+  if (steps) openPanel("mechanism", steps[1]);
+  if (!found) return false;
+  openPanel("log");
+  let bytes;
   try {
-    const bytes = Uint8Array.from(atob(found[2].replace(/-/g, "+").replace(/_/g, "/")), it => it.charCodeAt(0));
-    put(new TextDecoder().decode(await packed(bytes, new DecompressionStream("deflate-raw"))), "from the link");
+    const letters = atob(found[2].replace(/-/g, "+").replace(/_/g, "/"));
+    bytes = await packed(Uint8Array.from(letters, it => it.charCodeAt(0)), new DecompressionStream("deflate-raw"));
   } catch {
-    put("", "");
     fails("The link is damaged", "Its document can't be read. Was the end of the link cut off?");
     return true;
   }
-  $("command").value = found[1].replace("_", " ");
-  if ($("command").selectedIndex < 0) $("command").value = "";
-  ask();
+  take(new File([bytes], "from the link"), { command: found[1].replace("_", " "), link });
   return true;
 }
 
@@ -408,12 +529,14 @@ async function follow() {
 
 // The page that steps the mechanism stands in a frame of its own, which is made when it is first shown.
 function openPanel(name, steps) {
+  const isOpen = !$(name).hidden;
   for (const it of ["log", "mechanism"]) {
     $(it).hidden = it !== name;
     $(`${it}_tab`).setAttribute("aria-selected", String(it === name));
     $(`${it}_tab`).tabIndex = it === name ? 0 : -1;
   }
-  if (name !== "mechanism") return history.replaceState(null, "", "#");
+  if (name !== "mechanism") return isOpen || location.hash === state.link ? undefined : history.replaceState(null, "", state.link);
+  $("stepper").onload = () => hearDrops($("stepper").contentWindow);
   if (steps !== undefined && $("stepper").srcdoc) return $("stepper").contentWindow.postMessage({ steps }, "*");
   if (!$("stepper").srcdoc) $("stepper").srcdoc = JSON.parse($("stepper_text").textContent).replace("<html", `<html data-steps="${steps || ""}"`);
   return undefined;
@@ -445,7 +568,10 @@ function listExamples() {
     end.className = ["", "bad", "", "odd"][status];
     button.append(kind, ` ${shows} `, end);
     button.title = name;
-    button.onclick = () => example(name);
+    button.onclick = () => {
+      $("verdict").scrollIntoView({ block: "nearest" });
+      return example(name);
+    };
     row.append(button);
     $("examples").append(row);
   }
@@ -469,6 +595,9 @@ function listen() {
     return file && take(file);
   };
   $("text").oninput = () => {
+    // (what is typed counts now, and no file or link has that)
+    state.file = null;
+    hold("#");
     $("name").textContent = "";
     clearTimeout(state.later);
     state.later = setTimeout(ask, 400);
@@ -476,6 +605,7 @@ function listen() {
   $("smaller").onclick = () => zoom(1 / 1.4);
   $("larger").onclick = () => zoom(1.4);
   $("fit").onclick = () => zoom("fit");
+  $("draw").onclick = draw;
   for (const it of ["log", "mechanism"]) {
     $(`${it}_tab`).onclick = () => openPanel(it);
     $(`${it}_tab`).onkeydown = event => {
@@ -492,12 +622,16 @@ function listen() {
     if (event.key === "Escape") stop();
     else if (event.key === "Enter" && (event.ctrlKey || event.metaKey)) ask();
   });
-  addEventListener("dragover", event => {
+  hearDrops(window);
+}
+
+function hearDrops(place) {
+  place.addEventListener("dragover", event => {
     event.preventDefault();
     $("drop").classList.add("over");
   });
-  addEventListener("dragleave", () => $("drop").classList.remove("over"));
-  addEventListener("drop", drop);
+  place.addEventListener("dragleave", () => $("drop").classList.remove("over"));
+  place.addEventListener("drop", drop);
 }
 
 async function start() {

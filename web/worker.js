@@ -1,7 +1,5 @@
 // The page's worker: it compiles the module once, reads files itself, and answers one request after the other.
 const KINDS = { lines: "order", log: "order", check: "check", cell: "play", matrix: "play", board: "play" };
-// the longest document that isn't in lines
-const LONGEST = 1048576;
 let module;
 
 // The kind that a document names: a log in lines in its first line, any other at its top. (The program refuses a
@@ -16,6 +14,18 @@ function kindOf(bytes) {
     } catch {
       // (not JSON)
     }
+  }
+  return undefined;
+}
+
+// What is wrong with bytes that aren't a text in UTF-8, of which the program says only that they aren't JSON.
+function faultOf(bytes) {
+  const isMarked = bytes[0] === 0xef && bytes[1] === 0xbb && bytes[2] === 0xbf;
+  if (isMarked) return "It begins with a byte order mark, which JSON has not: save it without one.";
+  try {
+    new TextDecoder("utf-8", { fatal: true }).decode(bytes.subarray(0, 65536), { stream: true });
+  } catch {
+    return "It isn't a text in UTF-8.";
   }
   return undefined;
 }
@@ -39,7 +49,6 @@ function pictureOf({ command, kind, document, answer, bound }) {
 
 async function answer(request) {
   const say = phase => postMessage({ number: request.number, phase });
-  const began = performance.now();
   if (request.file) say("reading");
   let document;
   try {
@@ -59,7 +68,8 @@ async function answer(request) {
   } catch (error) {
     // (without a picture, then: the verdict stands)
   }
-  return { ...it, number: request.number, command, kind, picture, took, whole: performance.now() - began, length: document.length };
+  const fault = it.status === 3 ? faultOf(document) : undefined;
+  return { ...it, number: request.number, command, kind, picture, took, fault, length: document.length };
 }
 
 onmessage = async ({ data }) => {

@@ -2,7 +2,7 @@
 # with them, with a PATH that has compilers and nothing of the toolchain, an empty home, and, where a namespace of mounts is permitted,
 # empty folders in place of the toolchain's and of this tree. (tests/library/roots.sh has fresh Debian roots: here headers and libraries of
 # this machine are at hand.) It takes the library and the programs that are built by then, and makes only the programs' objects if they are
-# missing. Without binaryen the packages have no page, and there are two checks less.
+# missing.
 . build/library.sh
 . tests/library/packed.sh
 . tests/library/installed.sh
@@ -110,7 +110,6 @@ put_built() {
         done
     done 2>"$room/put"
     set_machine x86_64
-    [ -z "$with_page" ] || { mkdir -p "$1/out" && cp -r out/page "$1/out/"; }
 }
 
 # Copies a built file to its place in a copy of the tree, or to that of another one.
@@ -243,18 +242,9 @@ check_packages() {
     check "the names in the packages" are_in_order
 }
 
-# Builds the page here, over what the gate has built: so nothing is built of it in the copies.
-with_page=
-! command -v wasm-opt >/dev/null 2>&1 || with_page=yes
-build_page() {
-    over=
-    [ ! -d crates/memory_answers/out/rlib ] || over="--over rlib"
-    ./page $over "$packages/page.html"
-}
-
-# The page in the packages is the one that ./page builds, it is listed, and a browser finds all in it.
+# The page in the packages is that of the site, it is listed, and a browser finds all in it.
 has_page() {
-    cmp "$packages/page.html" "$made/nidzaru-page-$version.html" || return 1
+    cmp docs/nidzaru.html "$made/nidzaru-page-$version.html" || return 1
     grep -q '^PackageName: nidzaru-check_exports' "$made/nidzaru-page-$version.spdx" || return 1
     ! grep -n -E '(src|href)="[^#"]' "$made/nidzaru-page-$version.html"
 }
@@ -283,11 +273,6 @@ else
     else
         echo "test: no namespace of mounts is permitted, so files of the toolchain and of this tree can be read"
     fi
-    if [ -n "$with_page" ]; then
-        check "the page for the packages" build_page
-    else
-        echo "test: the packages have no page: there is no wasm-opt"
-    fi
     check "a copy of the tree" copy_tree
     check_packages
     check_contents
@@ -300,5 +285,5 @@ else
     check_rust
     check "the packaged programs" use_programs
     refuse_packaged
-    [ -z "$with_page" ] || check "the packaged page" has_page
+    check "the packaged page" has_page
 fi

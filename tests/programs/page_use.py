@@ -12,7 +12,7 @@ import os
 import sys
 import time
 
-from page_documents import TOP, of_extremes, text_of, write_log
+from page_documents import TOP, of_extremes, operations, text_of, write_log
 
 sys.path.insert(0, f"{TOP}/tests/docs")
 
@@ -36,16 +36,41 @@ LOST = '''{"kind":"lines","opening":0,"repeats":true}
 {"who":0,"kind":"cas","begin":1,"end":2,"from":0,"record":5,"swapped":false}
 '''
 LAWFUL = STALE.replace("[0]", "7")
+# What the page says of a log is to begin so, by the examples.
+SAID = {
+    "lines_stale": "Line 3 gave the opening",
+    "lines_crossed": "Each of two records has to stand before the other: line 5 ended at 19,",
+    "lines_limit": "Of the writes at most 2 can stand before line 4",
+    "lines_lost": "From time 5 to time 12 no order of these is lawful, whatever the register held before. Each other",
+    "lines_cas": "Some order gives all these answers",
+}
+# Files whose bytes aren't those of a text field, and what the page says of them.
+ODD_FILES = {
+    "a byte order mark": (b"\xef\xbb\xbf" + STALE.encode(), "odd", "byte order mark"),
+    "two records that aren't UTF-8": (STALE.encode().replace(b"[0]", b'"\xff"').replace(b"7", b'"\xfe"'), "odd", "isn't a text in UTF-8"),
+    "lines that end by carriage returns": (STALE.replace("\n", "\r").encode(), "odd", "no header"),
+    "lines that end by both": (STALE.replace("\n", "\r\n").encode(), "bad", "Line 3 gave the opening"),
+}
 # Hands a file with this text to the page, by a drop or as what is pasted.
 DROP = """(() => {
     const it = new DataTransfer();
     it.items.add(new File([%s], "dropped.jsonl"));
     $("drop").dispatchEvent(new DragEvent("drop", { dataTransfer: it, bubbles: true, cancelable: true }));
 })()"""
+DROP_TWO = DROP.replace('$("drop")', 'it.items.add(new File([], "other")), $("drop")')
 PASTE = """(() => {
     const it = new DataTransfer();
     it.items.add(new File([%s], "pasted.jsonl"));
     document.body.dispatchEvent(Object.assign(new Event("paste", { bubbles: true, cancelable: true }), { clipboardData: it }));
+})()"""
+# Takes a file of these bytes.
+TAKE = "take(new File([Uint8Array.from(atob(%s), it => it.charCodeAt(0))], 'taken'))"
+# Hands in two files of which the first is read more slowly, and gives what is shown in the end.
+TWO_FILES = """(async () => {
+    const slow = new File([%s], "slow"), bytes = await slow.arrayBuffer();
+    slow.arrayBuffer = () => new Promise(done => setTimeout(() => done(bytes), 300));
+    await Promise.all([take(slow), take(new File([%s], "quick"))]);
+    return $("name").textContent;
 })()"""
 # Measures the longest time in which the page does nothing else.
 GAPS = """(() => {
@@ -92,23 +117,42 @@ FAINT = """(() => {
 })()"""
 # By tabs from the page's front on.
 STOPS = (
-    "log_tab text answer choose link command bound sentence printed smaller fit larger save canvas examples trusted".split()
+    "log_tab text answer choose link command bound sentence printed smaller fit larger save canvas examples form trusted".split()
 )
 # By the parts of a use what is planted in the page: in place of which text, which other, and what has to be said of it.
 PLANTED = {
     "examples": ('["good", "bad"][data.status]', '["good", "good"][data.status]', "is shown as good"),
-    "links": ("lineAt(text, line - state.first + 1)", "lineAt(text, line - state.first)", "line 3 leads to"),
+    "sentences": ("const SAYS = /^[A-Z]/", "const SAYS = /^(Line|From)/", "of lines_crossed the page says"),
+    "links": ("for (let line = 1; line < number;", "for (let line = 2; line < number;", "line 3 leads to"),
     "times": ("drawn = small.text", "drawn = document", "the picture of a log of an hour has"),
-    "little": ("(Little|Nothing) was shown", "Little was shown", "a log without an operation:"),
+    "little": ("const SAYS = /^[A-Z]/", "const SAYS = /^[A-MO-Z]/", "a log without an operation:"),
     "hands_in": ('new File([text], "pasted")', 'new File([text + " x"], "pasted")', "pasted over an example"),
-    "by_link": ("packed(new TextEncoder().encode(text)", 'packed(new TextEncoder().encode(text + " ")', "a link leads to"),
+    "as_bytes": ("else if (!areSame(", "else if (!bytes.length && !areSame(", "of a byte order mark the page says"),
+    "in_turn": ("if (turn !== state.turn) return undefined;", "", "of two files the page takes the slow"),
+    "pictures": ("const LEAST_FIT = 0.6", "const LEAST_FIT = 0.001", "the picture of 60 operations is"),
+    "addresses": ("const LINK = /^#(?!steps:)", "const LINK = /^#", "a link to steps shows beside them"),
+    "by_link": (': new TextEncoder().encode($("text").value)', ': new TextEncoder().encode($("text").value + " ")', "a link leads to"),
     "long_run": ("const says = () => {", "const says = () => { for (const now = Date.now(); Date.now() < now + 150; );", "the longest gap is"),
     "ends": ('if (data.error) return fails("The module', 'if (data.error) put("", ""); if (data.error) return fails("The module', "a trap:"),
     "reading": ('<label for="text">', "<label>", "a textbox has no name"),
     "mechanism": ("history.replaceState(null, \"\", state.hash)", "0", "the steps stand in the address as"),
+    "narrow": ('$("verdict").scrollIntoView({ block: "nearest" });\n      return example', "return example", "after a tap the verdict stands at"),
     "screens": ("--back: #14181e; --ink: #e4e8ee", "--back: #14181e; --ink: #44484e", "dark: hard to read are"),
 }
 NAMED = {"button", "textbox", "combobox", "tab", "tabpanel", "link", "progressbar", "image", "img", "region", "heading", "group", "list"}
+
+
+# What is selected in the text field.
+SELECTED = "$('text').value.slice($('text').selectionStart, $('text').selectionEnd)"
+
+
+def in_one_document(rows):
+    return '{"kind":"log","opening":[0,0,0],"limit":9,"ops":[' + ",".join(rows) + "]}"
+
+
+def long_log(number):
+    """The lines of a log of so many operations."""
+    return ('{"kind":"lines","opening":[0,0,0]}\n', *(f"{it}\n" for it in operations(number)))
 
 
 class Use:
@@ -157,7 +201,7 @@ class Use:
         return self.js("$('text').value")
 
     def selected(self):
-        return self.js("$('text').value.slice($('text').selectionStart, $('text').selectionEnd)")
+        return self.js(SELECTED)
 
     # -- the parts --
 
@@ -179,10 +223,17 @@ class Use:
             self.need(self.js("!$('figure').hidden") == has_picture, f"{name}: picture shown: {not has_picture}")
             if name in ("crossed.json", "stalled_reader.json", "lines_early.jsonl", "no_limit.json"):
                 self.shot(name.partition(".")[0])
-        self.after("example('lines_stale.jsonl')")
-        self.need("Line 3 gave the opening" in self.shown()[1], f"the sentence is {self.shown()[1]}")
+
+    def sentences(self):
+        """What is wrong stands in words beside the verdict, with the lines that it names; and what an order says, and which key it is of."""
+        for name, begin in SAID.items():
+            self.after(f"example('{name}.jsonl')")
+            self.need(self.shown()[1].startswith(begin), f"of {name} the page says {self.shown()[1]}")
         self.after("example('lines_lost.jsonl')")
-        self.need(self.shown()[1].startswith("From time 5 to time 12 no order"), f"the sentence is {self.shown()[1]}")
+        named = self.js("[...document.querySelectorAll('#sentence .to')].map(it => it.textContent)")
+        self.need(named == ["3", "4", "5"], f"a group without an order is of the lines {named}")
+        self.after("example('lines_keys.jsonl')")
+        self.need('key: "right"' in self.shown()[2], f"of a log of two keys the facts are {self.shown()[2]}")
         self.after(f"(put({json.dumps(UNWRITTEN)}, ''), ask())")
         self.need(self.shown()[1].startswith("Line 2 found a record"), f"the sentence is {self.shown()[1]}")
         self.after(f"(put({json.dumps(LOST)}, ''), ask())")
@@ -199,6 +250,18 @@ class Use:
         self.after("example('crossed.json')")
         self.js("[...document.querySelectorAll('#printed .to')].find(it => it.textContent === '4').click()")
         self.need(json.loads(self.selected()) == json.loads(CROSSED)["ops"][4], "operation 4 leads elsewhere")
+        self.after("example('unlawful.json')")
+        self.js("([...document.querySelectorAll('#sentence .to')].find(it => it.textContent === '0').click(), 0)")
+        self.need(self.waits(f"({SELECTED}).includes('\"kind\":\"read\"')"), f"entry 0 of the order 1 0 leads to {self.selected()}")
+        for number in (200, 4000):
+            rows = list(operations(number))
+            self.js(f"(window.one = new File([{json.dumps(in_one_document(rows))}], 'one line'), 0)")
+            self.needs(self.after("take(one)"), "good", f"a document of {number} operations in one line")
+            self.js("(mark('operation', 150), 0)")
+            self.need(self.waits(f"({SELECTED}) === {json.dumps(rows[150])}"), f"of {number} operations number 150 leads to {self.selected()[:80]}")
+            # (it stands far to the right, or the part that is shown begins near it)
+            seen = self.js("[$('text').scrollLeft, $('text').selectionStart]")
+            self.need(seen[0] > 1000 and abs(seen[1] * 7.8 - seen[0]) < 600, f"of {number} operations number 150 isn't seen: {seen}")
 
     def times(self):
         """Of a log in lines the picture has the ranks of its times, so that it isn't as wide as they are far apart."""
@@ -212,6 +275,11 @@ class Use:
         self.after(f"(put({json.dumps(STALE.splitlines()[0])}, ''), ask())")
         title, sentence, _, kind = self.shown()
         self.need(kind == "good" and sentence.startswith("Nothing was shown"), f"a log without an operation: {title}. {sentence}")
+        self.after("(put('', ''), ask())")
+        self.need(self.shown()[0] == "There is no document yet" and self.js("$('answered').hidden"), f"without a document: {self.shown()}")
+        self.after("(put('who,kind', ''), ask())")
+        self.browser.click("#sentence .to:last-child")
+        self.need(self.js("$('form').parentElement.open"), "who hands in something else isn't told how a log is written")
 
     def hands_in(self):
         """Typing, a file, a drop, pasting and the keyboard."""
@@ -226,6 +294,8 @@ class Use:
         self.browser.choose("#file", f"{TOP}/examples/crossed.json")
         self.needs(self.browser.settle(), "bad", "a file")
         self.needs(self.after(DROP % json.dumps(LAWFUL)), "good", "a file that is dropped")
+        self.needs(self.after(DROP_TWO % json.dumps(LAWFUL)), "good", "two files that are dropped")
+        self.need("first of 2 files" in self.js("$('name').textContent"), "of two files that are dropped nothing is said")
         self.needs(self.after(PASTE % json.dumps(STALE)), "bad", "a file that is pasted")
         self.after(f"(put({json.dumps(LAWFUL)}, ''), $('text').focus(), ask())")
         for key in "ac":
@@ -242,9 +312,61 @@ class Use:
         self.browser.key("Enter", with_control=True)
         self.needs(self.browser.settle(), "bad", "by keys")
         self.needs(self.after("(put('{', ''), ask())"), "odd", "damaged")
-        folder = "take({ size: 10, name: 'folder', text: () => Promise.reject(new Error('no file')) })"
+        folder = "take({ size: 10, name: 'folder', arrayBuffer: () => Promise.reject(new Error('no file')) })"
         self.needs(self.after(folder), "odd", "a folder", "error")
         self.need(self.shown()[0] == "The file can't be read" and self.text() == "{", f"of a folder the page says {self.shown()}")
+
+    def as_bytes(self):
+        """The bytes of a file are answered, not what the text field makes of them."""
+        for what, (data, kind, said) in ODD_FILES.items():
+            ready = self.after(TAKE % json.dumps(letters_of(data)))
+            shown = self.shown()
+            self.need(ready == "yes" and shown[3] == kind and said in shown[1], f"of {what} the page says {shown}")
+            self.need(f"document of {len(data)} bytes" in shown[2], f"of {what} it answers another document: {shown[2]}")
+        self.js("(document.body.dataset.ready = '', $('text').focus(), $('text').setSelectionRange(0, 0), 0)")
+        self.browser.key(" ")
+        self.needs(self.browser.settle(), "bad", "typed into a file")
+
+    def in_turn(self):
+        """Of two files the later one is answered, though the earlier one is read more slowly."""
+        name = self.js(TWO_FILES % (json.dumps(LAWFUL), json.dumps(STALE)))
+        self.need(name == "quick" and self.text() == STALE, f"of two files the page takes the {name}")
+
+    def pictures(self):
+        """A picture can be read, or is drawn only if that is asked for."""
+        for number, is_drawn in ((60, True), (2000, False)):
+            self.js(f"(window.one = new File([{json.dumps(in_one_document(operations(number)))}], 'one'), 0)")
+            self.needs(self.after("take(one)"), "good", f"a document of {number} operations")
+            self.need(self.js("!$('canvas').hidden") == is_drawn, f"the picture of {number} operations is drawn: {not is_drawn}")
+            if is_drawn:
+                high = self.js("$('picture').clientHeight")
+                self.need(high > 100, f"the picture of {number} operations is {high} pixels high")
+        self.need(self.js("$('save').href.startsWith('blob:') && !$('draw').hidden"), "a large picture can't be saved or drawn")
+        self.needs(self.after("$('draw').click()"), "good", "a large picture")
+        self.need(self.js("$('picture').clientHeight") > 100, "a large picture isn't drawn")
+        self.js(f"(window.one = new File([{json.dumps(''.join(long_log(9000)))}], 'one'), 0)")
+        self.after("take(one, { command: 'order --order' })")
+        shown, whole = self.js("[$('printed').textContent.length, !$('whole').hidden && $('whole').href]")
+        self.need(shown < 30000 and whole, f"of a long answer {shown} letters are shown, and all of it is at {whole}")
+
+    def addresses(self):
+        """An address leads to one document or to steps, and goes as another document comes."""
+        self.open("#steps:wwr")
+        self.need(self.shown()[3] == "bad" and self.text() == STALE, f"a link to steps shows beside them {self.shown()[0]}")
+        self.after(DROP % json.dumps(LAWFUL))
+        self.need(self.js("!$('log').hidden") and self.text() == LAWFUL, "a file that is dropped beside the mechanism isn't shown")
+        self.browser.click("#link")
+        self.need(self.waits("location.hash.length > 20"), "there is no link")
+        hash_ = self.js("location.hash")
+        self.after("example('crossed.json')")
+        self.need(self.js("location.hash") == "", "the address keeps the link of another document")
+        for place in ("log", "mechanism"):
+            self.js(f"(openPanel('{place}'), 0)")
+            self.after(f"location.hash = {json.dumps(hash_)}")
+            self.need(self.text() == LAWFUL and self.js("!$('log').hidden"), f"a link to a document in the address of the {place} isn't followed")
+            self.after("example('crossed.json')")
+        self.after(f"(put({json.dumps(STALE)}, ''), location.hash = '#:abc')")
+        self.need(self.shown()[0] == "The link is damaged" and self.text() == STALE, f"a damaged link leaves {self.shown()}, {self.text()}")
 
     def by_link(self):
         """A link holds the document and the command."""
@@ -304,6 +426,7 @@ class Use:
                 break
             time.sleep(0.02)
         before = self.text()
+        self.need(self.js("$('answered').hidden && $('figure').hidden"), "beside a run that is under way another one's answer stands")
         if how.startswith("#"):
             self.js("($('stop').focus(), 0)")
             self.browser.click(how)
@@ -322,6 +445,9 @@ class Use:
         self.js("($('bound').add(new Option('none', 0)), $('bound').value = 0)")
         self.needs(self.after("example('lines_stale.jsonl')"), "odd", "no memory")
         self.need(self.shown()[0] == "Out of memory" and self.text() == STALE, f"no memory: {self.shown()}")
+        self.js("($('bound').value = 2 ** 26, 0)")
+        self.needs(self.after("take(new File([' '.repeat(8e6)], 'long'), { command: 'picture' })"), "odd", "a long document in little memory")
+        self.need(self.shown()[0].startswith("Refused"), f"of a long document in little memory the page says {self.shown()}")
         self.js("($('bound').value = 2 ** 32, 0)")
         deep = dict(of_extremes())["nested as deep as may be"].decode()
         self.js(SHALLOW % json.dumps(letters_of(self.shallow)))
@@ -343,7 +469,7 @@ class Use:
         self.after("ask()")
         heard = self.js("heard")
         self.need(len(heard) > 1 and heard[-1] != heard[-2], f"the same verdict again isn't heard: {heard}")
-        trusted = self.js("document.querySelector('details').textContent")
+        trusted = self.js("$('trusted').parentElement.textContent")
         for it in ("logic=proved", "LLVM", "heap", "linker", "script", "binaryen", "browser"):
             self.need(it in trusted, f"what is trusted doesn't name {it}")
         parts = self.browser.parts()
@@ -389,6 +515,16 @@ class Use:
             time.sleep(0.05)
         return False
 
+    def narrow(self):
+        """On a narrow screen a tap on an example leads to its verdict, and no long name makes the page wider."""
+        self.open("", 390, 844)
+        self.js("(document.querySelector('[data-name=\"lines_lost.jsonl\"]').scrollIntoView(), 0)")
+        self.after("document.querySelector('[data-name=\"lines_lost.jsonl\"]').click()")
+        top, high = self.js("[$('verdict').getBoundingClientRect().top, innerHeight]")
+        self.need(-5 < top < high - 100, f"after a tap the verdict stands at {top:.0f} of {high} pixels")
+        self.after(f"take(new File([{json.dumps(STALE)}], '{'long' * 60}'))")
+        self.need(self.js("document.documentElement.scrollWidth <= innerWidth"), "a long name makes the page wider")
+
     def screens(self):
         """Narrow screens, dark ones, and the zoom of a picture."""
         self.open()
@@ -405,9 +541,9 @@ class Use:
                 self.need(self.js("document.documentElement.scrollWidth <= innerWidth"), f"the page is wider than {wide} pixels")
                 back = self.js("getComputedStyle(document.body).backgroundColor")
                 self.need((back == "rgb(255, 255, 255)") == (scheme == "light"), f"{scheme}: the page's colour is {back}")
-                self.js("(document.querySelector('details').open = true, 0)")
+                self.js("(document.querySelectorAll('details').forEach(it => (it.open = true)), 0)")
                 self.need(not self.js(FAINT), f"{scheme}: hard to read are {self.js(FAINT)}")
-                self.js("(document.querySelector('details').open = false, 0)")
+                self.js("(document.querySelectorAll('details').forEach(it => (it.open = false)), 0)")
                 self.shot(f"{scheme}_{wide}")
         place = "[...document.querySelectorAll('#verdict, #chosen')].map(it => it.getBoundingClientRect().top)"
         verdict, chosen = self.js(place)
