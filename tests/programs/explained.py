@@ -93,6 +93,30 @@ BY_HAND = [
     (WRITES + op(1, "read", None, 2, 7), [], "explain: line 5: this is no operation\n"),
     (WRITES + line(who=1), [], "explain: line 5: this is no operation\n"),
 ]
+# Two writes that run together, and reads that find them one way and the other; a read of the second once it had ended.
+CROSSED = head(0) + op(0, "write", 10, 40, 1) + op(1, "write", 12, 38, 2) + op(2, "read", 15, 20, 1) + op(3, "read", 16, 19, 2)
+CROSSED += op(2, "read", 22, 27, 2) + op(3, "read", 23, 28, 1)
+BEHIND = head(0) + op(0, "write", 1, 2, 1) + op(0, "write", 3, 4, 2) + op(1, "read", 5, 6, 1) + op(1, "read", 7, 8, 0)
+# What is said first of several lines together, in the log with these words; nothing of others than the answer names.
+TOGETHER = [
+    (CROSSED, "5746", ["The record of line 3 has to stand before that of line 2, and behind it:",
+                       "  line 5, which has the record of line 3, ended at 19, and line 7, which has the record of line 2, began at 23: "
+                       "so the record of line 3 stands first",
+                       "  line 4, which has the record of line 2, ended at 20, and line 6, which has the record of line 3, began at 22: "
+                       "so the record of line 2 stands first"]),
+    (BEHIND, "2334", ["The record of line 2 has to stand before that of line 3, and behind it:",
+                      "  line 2 ended at 2, and line 3 began at 3: so the record of line 2 stands first",
+                      "  line 3 ended at 4, and line 4, which has the record of line 2, began at 5: so the record of line 3 stands first"]),
+    (BEHIND, "25", ["The opening has to stand behind another record:",
+                    "  line 2 ended at 2, and line 5, which has the record of the opening, began at 7: so the record of line 2 stands first"]),
+    *((CROSSED, asked, []) for asked in ("5764", "574", "5676", "57", "46")),
+    (CROSSED.replace('"begin":23', '"begin":19'), "5746", []),
+    (BEHIND, "24", []),
+    (BEHIND, "23", []),
+    (BEHIND, "2325", []),
+    (BEHIND + op(2, "read", 9, 10, 5), "36", []),
+    (head(0) + op(1, "read", 1, 2, 0) + op(1, "read", 3, 4, 0), "23", []),
+]
 NONE = "Each operation that ended has a record that was written, or the opening.\n"
 
 
@@ -120,10 +144,27 @@ def faults_by_hand(tool, folder):
         found, wanted = explain(tool, f"{folder}/log", *words), wanted_of(text, words, said)
         if found != wanted:
             faults.append(f"{text}{words}: {found} in place of {wanted}")
-    status, out, err = explain(tool, f"{folder}/none")
-    if (status, out) != (5, "") or not err.endswith("none: No such file or directory\n"):
-        faults.append(f"no file: status {status}: {out}{err}")
+    return faults + faults_together(tool, f"{folder}/log") + faults_of_none(tool, f"{folder}/none")
+
+
+def faults_together(tool, path):
+    """Behind what is said of the lines together stands what is said of each."""
+    faults = []
+    for text, asked, said in TOGETHER:
+        with open(path, "w", encoding="utf-8") as file:
+            file.write(text)
+        each = "".join(explain(tool, path, line)[1] for line in asked)
+        found, wanted = explain(tool, path, *asked), (0, "".join(f"{it}\n" for it in said) + each, "")
+        if found != wanted:
+            faults.append(f"{text}{asked}: {found} in place of {wanted}")
     return faults
+
+
+def faults_of_none(tool, path):
+    status, out, err = explain(tool, path)
+    if (status, out) != (5, "") or not err.endswith("none: No such file or directory\n"):
+        return [f"no file: status {status}: {out}{err}"]
+    return []
 
 
 def faults_of_recorded(tool, path):
@@ -145,7 +186,7 @@ def main():
         faults = faults_by_hand(words.tool, folder)
     if words.log and not faults:
         faults = faults_of_recorded(words.tool, words.log)
-    print("\n".join(faults or [f"{len(BY_HAND)} answers as by hand{', and one of a recorded log' if words.log else ''}"]))
+    print("\n".join(faults or [f"{len(BY_HAND) + len(TOGETHER)} answers as by hand{', and one of a recorded log' if words.log else ''}"]))
     return 1 if faults else 0
 
 

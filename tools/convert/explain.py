@@ -7,6 +7,9 @@ Each LINE is an operation's, as the answer of `fsr order` names it; without one,
 the first is explained. The log is the one that was judged; floors are passed over. The recorder keeps the first words of each record beside
 its hash, as `"words"`; where none stand, a record that is an array or a number is taken for its words.
 
+Of the four lines that `unlawful crossed` names, in its order, it says first which two writes have to stand before each other, and by which
+lines; of the two lines of `unlawful stale`, which write has to stand before the opening.
+
 What is said of a word: from which write it is, or that it isn't any write's. If several writes have it, the one is told that has most of
 these words, and of such ones the latest. A word of no write may be the first bytes of one write's and the last bytes of another's. Then the
 writes: the last that had ended before the operation began, and those that ran with it. None of this is proved, and none of it is needed for
@@ -161,9 +164,40 @@ def explained(log, line):
     return [f"line {line}: who {it.who}, a {it.kind} {times_of(it)}: {shown(it)}", *(f"  {text}" for text in told)]
 
 
+def with_its_write(log, it):
+    write = log.written[it.record]
+    return f"line {it.line}" if write is it else f"line {it.line}, which has the record of {name_of(write)},"
+
+
+def stands_first(log, before, behind):
+    """What follows from an operation that had ended when another one began."""
+    return (f"  {with_its_write(log, before)} ended at {before.end}, and {with_its_write(log, behind)} began at {behind.begin}: "
+            f"so the record of {name_of(log.written[before.record])} stands first")
+
+
+def is_pair(log, before, behind):
+    """Whether an operation had ended when one of another record began, both of records that were written."""
+    return before.end < behind.begin and before.record != behind.record and {before.record, behind.record} <= log.written.keys()
+
+
+def crossing(log, asked):
+    """What lines show together, if they are those of records that cross, or of an opening that is given too late."""
+    ops = [log.ops[line] for line in asked if line in log.ops]
+    pairs = list(zip(ops[::2], ops[1::2]))
+    if len(ops) != len(asked) or not all(is_pair(log, *pair) for pair in pairs):
+        return []
+    told = [stands_first(log, *pair) for pair in pairs]
+    if len(ops) == 4 and (ops[0].record, ops[1].record) == (ops[3].record, ops[2].record):
+        first, second = (name_of(log.written[it.record]) for it in ops[:2])
+        return [f"The record of {first} has to stand before that of {second}, and behind it:", *told]
+    if len(ops) == 2 and log.written[ops[1].record].line == 1:
+        return ["The opening has to stand behind another record:", *told]
+    return []
+
+
 def answer(log, asked):
     if asked:
-        return [text for line in asked for text in explained(log, line)]
+        return [*crossing(log, asked), *(text for line in asked for text in explained(log, line))]
     torn = log.torn()
     if not torn:
         return ["Each operation that ended has a record that was written, or the opening."]

@@ -16,6 +16,11 @@
 #define READERS 2
 #endif
 
+// (TBB has a name READERS of its own)
+enum : int { writers = WRITERS, readers = READERS };
+#undef WRITERS
+#undef READERS
+
 struct record {
     uint64_t words[WORDS];
 };
@@ -33,11 +38,11 @@ static void enter_thread() {}
 static void leave_thread() {}
 #endif
 
-static nidzaru_log logs[WRITERS + READERS];
+static nidzaru_log logs[writers + readers];
 static pthread_barrier_t start;
 
 static void write_all(int me, nidzaru_log *log) {
-    for (uint64_t number = 1 + static_cast<uint64_t>(me); !nidzaru_log_is_full(log); number += WRITERS) {
+    for (uint64_t number = 1 + static_cast<uint64_t>(me); !nidzaru_log_is_full(log); number += writers) {
         record made = record_of(number);
         nidzaru_log_begin_write(log, number, &made, sizeof made);
         write_register(me, made);
@@ -59,14 +64,14 @@ static void *run(void *shared) {
     int me = static_cast<int>(log - logs);
     enter_thread();
     pthread_barrier_wait(&start);
-    if (me < WRITERS) write_all(me, log);
+    if (me < writers) write_all(me, log);
     else read_all(me, log);
     leave_thread();
     return nullptr;
 }
 
 int main(int count, char **words) {
-    constexpr int tasks = WRITERS + READERS;
+    constexpr int tasks = writers + readers;
     size_t operations = count > 1 ? strtoul(words[1], nullptr, 10) : 100000;
     nidzaru_log *all[tasks];
     pthread_t threads[tasks];

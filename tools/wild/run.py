@@ -1,15 +1,19 @@
 #!/usr/bin/env python3
 """Registers of other people, as Debian has them, recorded and judged by `fsr order`: what docs/WILD.md shows.
 
-    run.py [--runs N] [--operations N] [--ahead N] [--unfenced] [--judge COMMAND] [NAME..]
-                        runs these, or all that can be built here; --unfenced without the recorder's fence too
+    run.py [--runs N] [--operations N] [--ahead N] [--wrong] [--unfenced] [--judge COMMAND] [NAME..]
+                        runs these, all that have to be refused, or all that can be built here, --unfenced without the recorder's fence
+                        too, and tells of how many runs each was refused
     run.py --table      prints the table of what was run, for docs/WILD.md
 
-On a machine with other work a smaller --ahead lets more records be read, in more time.
+A thread waits while it is --ahead operations ahead of the slowest. With 1 many records are read, though others want the processors; but two
+threads may then take turns for long, and half of the records are read, and none torn. A queue is full only if its writer may be ahead by
+more.
 
-Each register is a file of registers/, and is built with the recorder and g++. What was seen of it stands in out/wild/NAME.json. A register
-whose package isn't there is left out and told. Those that have to be lawful, and those that have to be refused in every run, are known
-beforehand, from what they promise; where it comes otherwise, it is told, and the status is 1.
+Each register is a file of registers/, built with the recorder and g++, or one of main.rs, built with the recorder for Rust and cargo. What
+was seen of it stands in out/wild/NAME.json. A register whose package isn't there is left out and told. Those that have to be lawful, and
+those that have to be refused in every run, are known beforehand, from what they promise; where it comes otherwise, it is told, and the
+status is 1.
 """
 
 import argparse
@@ -28,12 +32,13 @@ OUT = f"{TOP}/out/wild"
 # So many seconds a run may take.
 LONGEST = 300
 
-# A register: its name, its file, what it is, what it promises, the packages that it needs, the words of the compiler, what every run with the
-# recorder's fence has to say (nothing if that isn't known).
+# A register: its name, its file (none if it is in Rust), what it is, what it promises, the packages that it needs, the words of the
+# compiler, what every run with the recorder's fence has to say (nothing if that isn't known).
 Register = namedtuple("Register", "name file what promise packages words wanted")
 RELEASE = "-DORDER_WRITE=std::memory_order_release -DORDER_READ=std::memory_order_acquire"
 SEQUENTIAL = "-DORDER_WRITE=std::memory_order_seq_cst -DORDER_READ=std::memory_order_seq_cst"
-GPP, LAWFUL, REFUSED = "g++", "lawful", "refused"
+GPP, RUST, LAWFUL, REFUSED = "g++", None, "lawful", "refused"
+CROSSBEAM = "librust-crossbeam-channel-dev librust-crossbeam-queue-dev"
 REGISTERS = [Register(*it) for it in (
     ("ck_sequence", "ck_sequence", "Concurrency Kit, `ck_sequence`", "a whole record", "libck-dev", "", LAWFUL),
     ("urcu_assign", "urcu", "liburcu, `rcu_assign_pointer`", "release and consume", "liburcu-dev", "-lurcu", LAWFUL),
@@ -42,34 +47,56 @@ REGISTERS = [Register(*it) for it in (
     ("absl_flag16", "absl_flag", "Abseil, `absl::SetFlag` of 16 bytes", "thread-safe", "libabsl-dev", "-DWORDS=2 `pkg-config --libs absl_flags`", LAWFUL),
     ("absl_flag24", "absl_flag", "the same of 24 bytes", "thread-safe", "libabsl-dev", "`pkg-config --libs absl_flags`", LAWFUL),
     ("tbb_map", "tbb_map", "`tbb::concurrent_hash_map`, one key", "a lock", "libtbb-dev", "-DWRITERS=2 -ltbb", LAWFUL),
-    ("tbb_vector", "tbb_vector", "`tbb::concurrent_vector`, `v[v.size() - 1]`", "none: `size()` counts what is under construction", "libtbb-dev", "-DWRITERS=2 -ltbb", REFUSED),
-    ("tbb_bounded", "tbb_bounded_queue", "`tbb::concurrent_bounded_queue` of 1, the old one popped", "a queue", "libtbb-dev", "-DREADERS=1 -ltbb", None),
+    ("tbb_vector", "tbb_vector", "`tbb::concurrent_vector`, `v[v.size() - 1]`", "none: `size()` counts what is under construction", "libtbb-dev", "-DREADERS=1 -ltbb", REFUSED),
+    ("tbb_bounded", "tbb_bounded_queue", "`tbb::concurrent_bounded_queue` of 1, the old one popped", "a queue", "libtbb-dev", "-DREADERS=1 -ltbb", REFUSED),
     ("boost_spsc", "boost_spsc", "Boost `spsc_queue` of 1, dropped if full", "a queue: the newest is dropped", "libboost-dev", "-DREADERS=1", REFUSED),
     ("jack", "jack_ringbuffer", "JACK's ring buffer, dropped if full", "a queue: the newest is dropped", "libjack-dev", "-DREADERS=1 -ljack", REFUSED),
     ("gpsd", "gpsd", "libgps, `gps_read` of shared memory, repeated", "a whole record, or 0", "libgps-dev", "-DWORDS=4 -lgps", LAWFUL),
-    ("gpsd_keep", "gpsd", "the same, 0 taken for \"nothing new\"", "none: 0 is a collision", "libgps-dev", "-DWORDS=4 -DKEEP -lgps", REFUSED),
+    ("gpsd_keep", "gpsd", "the same, 0 taken for \"nothing new\"", "none: 0 is a collision", "libgps-dev", "-DWORDS=4 -DREADERS=1 -DKEEP -lgps", REFUSED),
     ("ntp_shm1", "ntp_shm", "NTP's shared memory, mode 1", "`count` detects clashes", GPP, "-DMODE=1 -DREADERS=1", REFUSED),
     ("ntp_shm1_two", "ntp_shm", "the same, two readers", "one reader alone", GPP, "-DMODE=1", REFUSED),
     ("ntp_shm0", "ntp_shm", "the same, mode 0", "none", GPP, "-DMODE=0 -DREADERS=1", REFUSED),
     ("seqlock", "seqlock", "a sequence lock as in Linux, barriers of the compiler", "a whole record on x86-64", GPP, "", LAWFUL),
     ("seqlock_no_rmb", "seqlock", "the same without the reader's", "none", GPP, "-DNO_RMB", None),
-    ("seqlock_no_wmb", "seqlock", "the same without the writer's", "none", GPP, "-DNO_WMB", REFUSED),
-    ("seqlock_none", "seqlock", "the same without either", "none", GPP, "-DNO_RMB -DNO_WMB", REFUSED),
+    ("seqlock_no_wmb", "seqlock", "the same without the writer's", "none", GPP, "-DNO_WMB -DREADERS=1", REFUSED),
+    ("seqlock_none", "seqlock", "the same without either", "none", GPP, "-DNO_RMB -DNO_WMB -DREADERS=1", REFUSED),
     ("relaxed_seqlock", "relaxed_seqlock", "the same by relaxed atomics, 8 words", "none by C++", GPP, "-DWORDS=8", None),
-    ("volatile", "volatile", "a volatile struct", "none", GPP, "", REFUSED),
+    ("volatile", "volatile", "a volatile struct", "none", GPP, "-DREADERS=1", REFUSED),
     ("avx", "avx", "one AVX store and load of 32 bytes", "none by Intel", GPP, "-DWORDS=4 -mavx2", None),
     ("atomic24", "std_atomic", "`std::atomic` of 24 bytes", "linearizable", GPP, f"-DWRITERS=2 {SEQUENTIAL} -latomic", LAWFUL),
     ("atomic24_release", "std_atomic", "the same by release and acquire", "release and acquire", GPP, f"-DWRITERS=2 {RELEASE} -latomic", LAWFUL),
     ("pointer", "std_pointer", "`std::atomic<T *>` by release and acquire", "release and acquire", GPP, "-DWRITERS=2", LAWFUL),
     ("shared_ptr", "std_shared_ptr", "`std::atomic_store` of a `shared_ptr`", "sequentially consistent", GPP, "-DWRITERS=2", LAWFUL),
     ("atomic_shared_ptr", "std_shared_ptr", "`std::atomic<std::shared_ptr>`", "sequentially consistent", GPP, "-DWRITERS=2 -DATOMIC", LAWFUL),
-    ("file_tmpfs", "file", "24 bytes of a file on tmpfs, `pwrite` and `pread`", "POSIX: atomic", GPP, "-DWRITERS=2 -DAT=0 -DFOLDER='\"/dev/shm\"'", REFUSED),
-    ("file_disk", "file", "the same on ext4", "POSIX: atomic", GPP, "-DWRITERS=2 -DAT=0 -DFOLDER='\"/var/tmp\"'", REFUSED),
-    ("file_disk_pages", "file", "the same over the border of two pages", "POSIX: atomic", GPP, "-DWRITERS=2 -DAT=4088 -DFOLDER='\"/var/tmp\"'", REFUSED),
+    ("file_tmpfs", "file", "24 bytes of a file on tmpfs, `pwrite` and `pread`", "POSIX: atomic", GPP, "-DREADERS=1 -DAT=0 -DFOLDER='\"/dev/shm\"'", REFUSED),
+    ("file_disk", "file", "the same on ext4", "POSIX: atomic", GPP, "-DREADERS=1 -DAT=0 -DFOLDER='\"/var/tmp\"'", REFUSED),
+    ("file_disk_pages", "file", "the same over the border of two pages", "POSIX: atomic", GPP, "-DREADERS=1 -DAT=4088 -DFOLDER='\"/var/tmp\"'", REFUSED),
+    ("array_queue", RUST, "crossbeam's `ArrayQueue` of 1, `force_push`, two readers", "a queue: each record goes to one", CROSSBEAM, "", REFUSED),
+    ("channel", RUST, "crossbeam's `channel::bounded(1)`, `try_send`", "a queue: the newest is dropped", CROSSBEAM, "", REFUSED),
+    ("rust_volatile", RUST, "Rust's `write_volatile` of three words", "none", CROSSBEAM, "", REFUSED),
     ("renamed", "renamed_file", "a new file, renamed over the old one, on tmpfs", "POSIX: atomic", GPP, "-DWRITERS=2 -DFOLDER='\"/dev/shm\"'", LAWFUL),
 )]
-# Calls of the system are slow, so logs of files are shorter.
-SLOW = ("file_tmpfs", "file_disk", "file_disk_pages", "renamed", "gpsd", "gpsd_keep")
+# How many times --operations of them a run makes, and how many a thread may be ahead, if not 1 and 1: fewer where calls are slow or threads
+# are many, more where a fault is rarely seen.
+PACES = {"gpsd": (0.2, 1), "renamed": (0.2, 1), "array_queue": (0.2, 1), "channel": (0.2, 1), "jack": (1, 8), "tbb_vector": (2, 1),
+         "gpsd_keep": (3, 1), "tbb_bounded": (3, 1), "seqlock_no_wmb": (3, 1), "rust_volatile": (6, 3)}
+# The crate of the registers in Rust, with the sources that Debian has.
+MANIFEST = f"""[package]
+name = "wild"
+version = "0.0.0"
+edition = "2021"
+
+[[bin]]
+name = "wild"
+path = "{HERE}/main.rs"
+
+[dependencies]
+crossbeam-channel = "0.5"
+crossbeam-queue = "0.3"
+
+[workspace]
+"""
+DEBIAN = ["--config", "source.crates-io.replace-with='debian'", "--config", "source.debian.directory='/usr/share/cargo/registry'"]
 
 
 def said_of(command, **more):
@@ -88,14 +115,28 @@ def words_of(text):
     return shlex.split(re.sub(r"`([^`]*)`", lambda it: said_of(shlex.split(it[1])).stdout.strip(), text))
 
 
+def build_rust(register, fenced):
+    """The words of the command that runs a register in Rust."""
+    os.makedirs(f"{OUT}/rust", exist_ok=True)
+    with open(f"{OUT}/rust/Cargo.toml", "w", encoding="utf-8") as file:
+        file.write(MANIFEST)
+    done = said_of(["cargo", "build", "--release", "--offline", "--quiet", *DEBIAN], cwd=f"{OUT}/rust")
+    if done.returncode:
+        raise OSError(f"{register.name} isn't built: {done.stderr[:300]}")
+    return lambda *words: [f"{OUT}/rust/target/release/wild", register.name, *words, *([] if fenced else ["unfenced"])]
+
+
 def build(register, fenced):
+    """The same of any register: it takes the number of operations, and how many a thread may be ahead."""
+    if register.file == RUST:
+        return build_rust(register, fenced)
     program = f"{OUT}/{register.name}.{'fenced' if fenced else 'unfenced'}"
     command = ["g++", "-std=c++20", "-O2", "-w", "-pthread", f"-DNIDZARU_LOG_FENCE={int(fenced)}", f"-DREGISTER=\"registers/{register.file}.hpp\"",
                "-I", f"{TOP}/c", f"{HERE}/main.cpp", "-o", program, *words_of(register.words)]
     done = said_of(command)
     if done.returncode:
         raise OSError(f"{register.name} isn't built: {done.stderr[:300]}")
-    return program
+    return lambda *words: [program, *words]
 
 
 def judge(command, path):
@@ -109,14 +150,15 @@ def judge(command, path):
     return {"verdict": said[0], "sentence": sentence, "share": read / max(records - 1, 1)}
 
 
-def run_once(register, program, words, explains):
+def run_once(register, command, words, explains):
     """A run, judged; if it has to be explained and is torn, with what its words tell."""
     with tempfile.NamedTemporaryFile(dir="/dev/shm", suffix=".jsonl") as log:
-        operations = words.operations // (5 if register.name in SLOW else 1)
-        done = subprocess.run([program, str(operations), str(words.ahead)], stdout=log, timeout=LONGEST, check=False)
+        times, ahead = PACES.get(register.name, (1, 1))
+        operations, ahead = int(words.operations * times), words.ahead or ahead
+        done = subprocess.run(command(str(operations), str(ahead)), stdout=log, timeout=LONGEST, check=False)
         if done.returncode:
             raise OSError(f"{register.name} ends with {done.returncode}")
-        found = judge(words.judge, log.name) | {"operations": operations}
+        found = judge(words.judge, log.name) | {"operations": operations, "ahead": ahead}
         if explains and found["verdict"].startswith("unlawful unwritten"):
             line = found["verdict"].split()[-1]
             found["explained"] = said_of([sys.executable, f"{TOP}/tools/convert/explain.py", log.name, line]).stdout
@@ -128,16 +170,15 @@ def run(register, words):
     os.makedirs(OUT, exist_ok=True)
     seen = {"versions": {it: version_of(it) for it in register.packages.split()}, "fenced": [], "unfenced": []}
     for key in ("fenced", "unfenced")[: 2 if words.unfenced else 1]:
-        program = build(register, key == "fenced")
+        command = build(register, key == "fenced")
         for _ in range(words.runs):
-            seen[key].append(run_once(register, program, words, not any("explained" in it for it in seen[key])))
+            seen[key].append(run_once(register, command, words, not any("explained" in it for it in seen[key])))
             if key == "fenced" and register.wanted == LAWFUL and seen[key][-1]["verdict"] != LAWFUL:
                 break
     with open(f"{OUT}/{register.name}.json", "w", encoding="utf-8") as file:
         json.dump(seen, file, indent=1)
     lawful = [it["verdict"] == LAWFUL for it in seen["fenced"]]
-    shares = ", ".join(f"{100 * it['share']:.1f}" for it in seen["fenced"])
-    print(f"{register.name}: {sum(lawful)} of {len(lawful)} lawful, {shares} % read", flush=True)
+    print(f"{register.name}: {lawful.count(False)} of {len(lawful)} runs refused: {counted(seen['fenced'])} of the records read", flush=True)
     if register.wanted == LAWFUL and not all(lawful):
         return f"{register.name} has to be lawful: {seen['fenced'][-1]}"
     if register.wanted == REFUSED and any(lawful):
@@ -154,14 +195,16 @@ def counted(runs):
 
 
 def table():
-    rows = ["| Register | Promise | Runs; records read |", "|---|---|---|"]
+    rows = ["| Register, of the package | Promise | Refused | Verdicts; records read |", "|---|---|---|---|"]
     for it in REGISTERS:
         try:
             with open(f"{OUT}/{it.name}.json", encoding="utf-8") as file:
                 seen = json.load(file)
         except OSError:
             continue
-        rows.append(f"| {it.what} | {it.promise} | {counted(seen['fenced'])} |")
+        runs, packages = seen["fenced"], "".join(f", {name} {version}" for name, version in seen["versions"].items())
+        refused = sum(found["verdict"] != LAWFUL for found in runs)
+        rows.append(f"| {it.what}{packages} | {it.promise} | {refused} of {len(runs)} | {counted(runs)} |")
     return rows
 
 
@@ -170,8 +213,9 @@ def main():
     built = f"{TOP}/crates/fsr_order/out/fsr_order"
     parser.add_argument("--runs", type=int, default=10)
     parser.add_argument("--operations", type=int, default=100000)
-    parser.add_argument("--ahead", type=int, default=100)
+    parser.add_argument("--ahead", type=int)
     parser.add_argument("--judge", type=shlex.split, default=[built] if os.access(built, os.X_OK) else [f"{TOP}/fsr", "order"])
+    parser.add_argument("--wrong", action="store_true")
     parser.add_argument("--unfenced", action="store_true")
     parser.add_argument("--table", action="store_true")
     parser.add_argument("names", nargs="*", metavar="NAME")
@@ -181,7 +225,7 @@ def main():
         return 0
     faults = []
     for register in REGISTERS:
-        if words.names and register.name not in words.names:
+        if (words.names and register.name not in words.names) or (words.wrong and register.wanted != REFUSED):
             continue
         absent = [it for it in register.packages.split() if not version_of(it)]
         if absent:

@@ -90,6 +90,8 @@ fn write_all(shared: &SeqLock, log: &mut Log) {
         let item = item(n);
         log.write(Record::of_words(&item), || shared.write(&item));
     }
+    // (a paced thread waits for no other that has left)
+    log.leave();
 }
 
 fn read_all(shared: &SeqLock, log: &mut Log) {
@@ -97,6 +99,7 @@ fn read_all(shared: &SeqLock, log: &mut Log) {
         log.read(|| shared.read(), |item| Record::of_words(item));
         shared.reads.fetch_add(1, SeqCst);
     }
+    log.leave();
 }
 
 /// Writes lines and floors as long as the threads run.

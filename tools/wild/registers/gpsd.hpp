@@ -9,7 +9,7 @@ struct exported {
     int bookend2;
 };
 static volatile exported *shared;
-static struct gps_data_t mine, theirs[WRITERS + READERS];
+static struct gps_data_t mine, theirs[writers + readers];
 static void put(struct gps_data_t &to, const record &from) {
     to.fix.time.tv_sec = static_cast<time_t>(from.words[0]);
     to.fix.latitude = static_cast<double>(from.words[1]);

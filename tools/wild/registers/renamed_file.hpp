@@ -1,7 +1,7 @@
 // A file in FOLDER that is written anew and renamed over the old one.
 #include <fcntl.h>
 #include <unistd.h>
-static char folder[] = FOLDER "/registerXXXXXX", held[200], fresh[WRITERS][200];
+static char folder[] = FOLDER "/registerXXXXXX", held[200], fresh[writers][200];
 static void want(bool holds) {
     if (!holds) abort();
 }
@@ -20,7 +20,7 @@ static void clean() {
 static void open_register(const record &opening) {
     want(mkdtemp(folder) != nullptr);
     snprintf(held, sizeof held, "%s/held", folder);
-    for (int k = 0; k < WRITERS; k++) snprintf(fresh[k], sizeof fresh[k], "%s/fresh%d", folder, k);
+    for (int k = 0; k < writers; k++) snprintf(fresh[k], sizeof fresh[k], "%s/fresh%d", folder, k);
     write_register(0, opening);
     atexit(clean);
 }
