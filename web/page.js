@@ -30,7 +30,7 @@ const MEANS = { "check": `It ${GIVES}`, "order": `Some order ${GIVES}`, "order -
 const ENDS = { 3: "Refused: nothing is said of its operations", 4: "Out of memory", 7: "No verdict" };
 const BOUNDS = { "64 MB": 2 ** 26, "256 MB": 2 ** 28, "1 GB": 2 ** 30, "4 GB": 2 ** 32, "12 GB": 12 * 2 ** 30 };
 // The regions of an answer whose numbers are lines, operations or entries of the order of the document.
-const NAMED = /\blines? \d+(?:(?:,| and) \d+)*|\boperations? \d+(?:(?: and| precedes) \d+)*|\bentry \d+|^(?:unlawful \w+|order:|writes:)(?: \d+)+/gim;
+const NAMED = /\blines? \d+(?:(?:,| and| precedes) \d+)*|\boperations? \d+(?:(?: and| precedes) \d+)*|\bentry \d+|^(?:unlawful \w+|order:|writes:)(?: \d+)+/gim;
 
 // -- the module and its worker --
 
@@ -44,10 +44,11 @@ async function unpacked(id) {
   return new Uint8Array(await new Response(new Blob([bytes]).stream().pipeThrough(new DecompressionStream("gzip"))).arrayBuffer());
 }
 
-// Of the run; then the file that is answered in place of the text, the first of its lines that is shown, and how many
-// documents came in; what the address had when it was looked at last, and the document's link; and of what is shown.
+// Of the run, of which `named` is the operations' lines by the document's key `lines`; then the file that is answered in
+// place of the text, the first of its lines that is shown, and how many documents came in; what the address had when it
+// was looked at last, and the document's link; and of what is shown.
 const state = {
-  worker: null, module: null, number: 0, running: false, began: 0, kind: "",
+  worker: null, module: null, number: 0, running: false, began: 0, kind: "", named: [],
   file: null, first: 1, turn: 0,
   hash: "", link: "#",
   zoom: 1, picture: null, whole: null,
@@ -197,6 +198,14 @@ function namesThese(first) {
   return numbers ? ` These are lines ${numbers.replace(/ (?=\d+$)/, " and ").replace(/(\d) (?=\d)/g, "$1, ")}.` : "";
 }
 
+// A picture's sentence, in which the operations that the document has lines of are called lines, as their numbers are.
+function ofLines(sentence) {
+  const isNamed = numbers => numbers.match(/\d+/g).every(it => state.named.includes(Number(it)));
+  const called = (all, numbers) => (isNamed(numbers) ? `line ${numbers}` : all);
+  const text = sentence.replace(/\boperation (\d+(?:(?: and| precedes) \d+)*)/g, called);
+  return text === sentence ? text : `${text} (lines by the document's key "lines")`;
+}
+
 // The sentence of an answer: the program's own, where it prints one, else that of the picture.
 function sentenceOf(data, text, lines) {
   if (data.kind === "race") return `${text.trim()}. A race needs threads, which a page hasn't: ./fsr race runs it.`;
@@ -207,7 +216,7 @@ function sentenceOf(data, text, lines) {
   if (data.command === "order --small" && data.kind === "lines") return "";
   const svg = data.picture && data.picture.of === "document" ? new TextDecoder().decode(data.picture.svg.subarray(0, 4000)) : "";
   const drawn = /<text class="z" x="8" y="24">([^<]*)/.exec(svg);
-  return drawn ? drawn[1].replace(/&lt;/g, "<").replace(/&gt;/g, ">").replace(/&amp;/g, "&") : lines[0] || "";
+  return drawn ? ofLines(drawn[1].replace(/&lt;/g, "<").replace(/&gt;/g, ">").replace(/&amp;/g, "&")) : lines[0] || "";
 }
 
 // Leads to the part of the page that tells how a log is written.
@@ -232,6 +241,7 @@ function answer(data) {
   }
   const text = new TextDecoder().decode(data.text);
   state.kind = data.kind;
+  state.named = data.named;
   const lines = text.split("\n").filter(it => it);
   const tells = data.kind === "lines" && data.status <= 1 && data.command !== "order --small";
   const [counts, key] = [/^\d+ operations, /, /^key: /].map(start => (tells && lines.find(it => start.test(it))) || "");
@@ -302,22 +312,29 @@ function zoom(by) {
   if (by !== "fit") canvas.scrollLeft = middle * state.zoom - room / 2;
 }
 
+// What a number in this region of an answer leads to: a line, an operation or an entry, and which. (A line in an answer
+// to a document of kind `log` is that of an operation.)
+function meant(region, number) {
+  if (region.startsWith("entry")) return ["entry", number];
+  if (state.kind === "lines") return ["line", number];
+  return ["operation", region.startsWith("line") ? state.named.indexOf(number) : number];
+}
+
 // A text whose numbers of lines and operations lead to the document.
 function linked(text) {
-  const unit = { lines: "line", log: "operation", check: "operation" }[state.kind];
-  if (!unit || state.file && !$("text").value) return [text];
+  if (!["lines", "log", "check"].includes(state.kind) || state.file && !$("text").value) return [text];
   const found = [];
   let at = 0, links = 0;
   for (const region of text.matchAll(NAMED))
     for (const number of region[0].matchAll(/\d+/g)) {
-      if (links++ >= MOST_LINKS) continue;
+      const [what, which] = meant(region[0], Number(number[0]));
+      if (which < 0 || links++ >= MOST_LINKS) continue;
       const place = region.index + number.index;
       const button = document.createElement("button");
       button.className = "to";
       button.textContent = number[0];
-      const what = region[0].startsWith("entry") ? "entry" : unit;
-      button.title = `Show ${what} ${number[0]} of the document`;
-      button.onclick = () => mark(what, Number(number[0]));
+      button.title = `Show ${what} ${which} of the document`;
+      button.onclick = () => mark(what, which);
       found.push(text.slice(at, place), button);
       at = place + number[0].length;
     }

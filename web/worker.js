@@ -2,20 +2,20 @@
 const KINDS = { lines: "order", log: "order", check: "check", cell: "play", matrix: "play", board: "play" };
 let module;
 
-// The kind that a document names: a log in lines in its first line, any other at its top. (The program refuses a
-// wrong guess.)
-function kindOf(bytes) {
+// The object that names a document's kind: of a log in lines its first line, of any other the whole. (The program
+// refuses a wrong guess.)
+function topOf(bytes) {
   const end = bytes.indexOf(10);
   for (const part of [bytes.subarray(0, end < 0 ? bytes.length : end), bytes]) {
     if (part.length > LONGEST) continue;
     try {
-      const { kind } = JSON.parse(new TextDecoder().decode(part));
-      if (typeof kind === "string") return kind;
+      const top = JSON.parse(new TextDecoder().decode(part));
+      if (typeof top.kind === "string") return top;
     } catch {
       // (not JSON)
     }
   }
-  return undefined;
+  return {};
 }
 
 // What is wrong with bytes that aren't a text in UTF-8, of which the program says only that they aren't JSON.
@@ -56,7 +56,7 @@ async function answer(request) {
   } catch (error) {
     return { number: request.number, unread: String(error) };
   }
-  const kind = kindOf(document), command = request.command || KINDS[kind] || "order", bound = request.bound;
+  const { kind, lines } = topOf(document), command = request.command || KINDS[kind] || "order", bound = request.bound;
   say("answering");
   const asked = performance.now();
   const it = run(module, command, document, bound);
@@ -69,7 +69,8 @@ async function answer(request) {
     // (without a picture, then: the verdict stands)
   }
   const fault = it.status === 3 ? faultOf(document) : undefined;
-  return { ...it, number: request.number, command, kind, picture, took, fault, length: document.length };
+  const named = kind === "log" && Array.isArray(lines) ? lines : [];
+  return { ...it, number: request.number, command, kind, named, picture, took, fault, length: document.length };
 }
 
 onmessage = async ({ data }) => {

@@ -36,6 +36,12 @@ LOST = '''{"kind":"lines","opening":0,"repeats":true}
 {"who":0,"kind":"cas","begin":1,"end":2,"from":0,"record":5,"swapped":false}
 '''
 LAWFUL = STALE.replace("[0]", "7")
+# (what `fsr order --small` makes of a log like the stale one, and a longer one, each of whose operations has a line)
+SMALL = '''{"kind":"log","opening":[0,0,0],"limit":1,"lines":[2,3],"ops":[
+ {"who":0,"kind":"write","begin":0,"end":4,"record":[2,2,2]},
+ {"who":1,"kind":"read","begin":6,"end":8,"record":[0,0,0]}]}
+'''
+LINED = CROSSED.replace('"ops"', '"lines":[2,3,5,7,11,13],"ops"')
 # What the page says of a log is to begin so, by the examples.
 SAID = {
     "lines_stale": "Line 3 gave the opening",
@@ -124,6 +130,7 @@ PLANTED = {
     "examples": ('["good", "bad"][data.status]', '["good", "good"][data.status]', "is shown as good"),
     "sentences": ("const SAYS = /^[A-Z]/", "const SAYS = /^(Line|From)/", "of lines_crossed the page says"),
     "links": ("for (let line = 1; line < number;", "for (let line = 2; line < number;", "line 3 leads to"),
+    "by_lines": ("state.named.indexOf(number)", "number", "line 2 leads to"),
     "times": ("drawn = small.text", "drawn = document", "the picture of a log of an hour has"),
     "little": ("const SAYS = /^[A-Z]/", "const SAYS = /^[A-MO-Z]/", "a log without an operation:"),
     "hands_in": ('new File([text], "pasted")', 'new File([text + " x"], "pasted")', "pasted over an example"),
@@ -262,6 +269,27 @@ class Use:
             # (it stands far to the right, or the part that is shown begins near it)
             seen = self.js("[$('text').scrollLeft, $('text').selectionStart]")
             self.need(seen[0] > 1000 and abs(seen[1] * 7.8 - seen[0]) < 600, f"of {number} operations number 150 isn't seen: {seen}")
+
+    def by_lines(self):
+        """Of a document with `lines` the sentence names lines, and these lead to their operations. What is printed names places."""
+        crossed = "crossed: line 2 precedes 11 and 5 precedes 13:"
+        stale = "stale: %s, of another record, precedes %s,"
+        cases = (
+            (SMALL, stale % ("line 2", "line 3"), {"2": 0, "3": 1}, "stale 0 1"),
+            (LINED, crossed, {"2": 0, "11": 4, "5": 2, "13": 5}, "crossed 0 4 2 5"),
+            (SMALL.replace("[2,3]", "[2]"), stale % ("line 2", "operation 1"), {"2": 0, "1": 1}, "stale 0 1"),
+            (SMALL.replace("[2,3]", "2"), stale % ("operation 0", "operation 1"), {"0": 0, "1": 1}, "stale 0 1"),
+        )
+        for text, said, leads, printed in cases:
+            ops = json.loads(text)["ops"]
+            self.after(f"(put({json.dumps(text)}, ''), ask())")
+            self.need(self.shown()[1].startswith(f"unlawful {said}"), f"with `lines` the page says {self.shown()[1]}")
+            self.need(self.js("$('printed').textContent") == f"unlawful {printed}\n", "with `lines` another text is printed")
+            named = [("sentence", *it) for it in leads.items()] + [("printed", str(it), it) for it in leads.values()]
+            for part, number, place in named:
+                self.js(f"([...document.querySelectorAll('#{part} .to')].find(it => it.textContent === '{number}').click(), 0)")
+                wanted = json.dumps(ops[place], separators=(",", ":"))
+                self.need(self.waits(f"({SELECTED}) === {json.dumps(wanted)}"), f"in the {part} line {number} leads to {self.selected()}")
 
     def times(self):
         """Of a log in lines the picture has the ranks of its times, so that it isn't as wide as they are far apart."""
