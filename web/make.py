@@ -33,6 +33,11 @@ MODULE = '<script type="text/plain" id="{}" data-sum="(\\w+)">(.*?)</script>'
 VERDICT = re.compile(r"The prover's line: <code>(.*?)</code>")
 # What is kept of a build, by the crate.
 KEPT = {CRATE: ("wide.wasm", "narrow.wasm", "refuses.wasm", "shallow.wasm", "stack_128.wasm", "verdict"), CELL: ("cell.wasm",)}
+# What is said if the modules of a crate aren't of what lies here.
+MENDED = {
+    CRATE: "docs/nidzaru.html has modules of other files than lie here: run ./page docs/nidzaru.html",
+    CELL: "docs/stepper.html or docs/nidzaru.html has a module of other files: run ./page --cell, then ./page docs/nidzaru.html",
+}
 # the commands that a page can run, as its list has them; a race needs threads
 COMMANDS = ("order", "check", "play")
 
@@ -115,12 +120,14 @@ def sum_of_build(kit, crate):
 
 
 def read_page(crate):
-    """What docs/nidzaru.html has of this crate, if that was built of the files that lie here, or None."""
+    """What docs/nidzaru.html has of this crate, and docs/stepper.html too, if that was built of the files that lie here, or None."""
     text = read(PAGE) if os.path.exists(PAGE) else ""
     if dict(IN_PAGE.findall(text)).get(crate) != sum_of_files(crate):
         return None
     if crate == CELL:
-        return {"cell.wasm": base64.b64decode(IN_STEPPER.search(read(STEPPER))[2])}
+        # (the sum is of the module in the page, which has the stepper's page as JSON: the other file may have an older one)
+        letters = IN_STEPPER.search(read(STEPPER))[2]
+        return {"cell.wasm": base64.b64decode(letters)} if json.dumps(letters)[1:-1] in text else None
     return {"wide.wasm": unpacked(text, "wide"), "narrow.wasm": unpacked(text, "narrow"), "verdict": VERDICT.search(text)[1].encode()}
 
 
@@ -178,7 +185,7 @@ def modules(crates, asked):
     for crate in crates:
         found = None if asked.anew else read_page(crate)
         if found is None and asked.kept:
-            raise Refused(f"{os.path.relpath(PAGE, TOP)} has modules of other files than lie here: run ./page docs/nidzaru.html")
+            raise Refused(MENDED[crate])
         made |= found or build(crate, asked)
     return made
 

@@ -1,5 +1,6 @@
-# The site's page: its code, its figures and its links are the repository's, and in Chromium and Firefox the mechanism steps by itself and each
-# tab shows its code. The second needs a browser. And the page that judges logs has modules that were built of the files that lie here.
+# The site's page: its code, its figures and its links are the repository's, and in Chromium and Firefox the mechanism steps by itself and
+# each tab shows its code. The second needs a browser. And the page that judges logs has modules that were built of the files that lie here,
+# among them the one of the page that steps the mechanism.
 
 # Looks at the page in this folder's docs/.
 looks_at_site() {
@@ -20,6 +21,8 @@ else
         fail "docs/nidzaru.html" "it isn't the page of what lies here; run ./page docs/nidzaru.html: $(tail -n 1 "$room/out")"
     fi
     catches_in_tree "modules of other files in docs/nidzaru.html" "modules of other files" crates/read_line/src/lib.rt '1s/^/\/\/ Other.\n/' \
+        python3 web/make.py --kept "$room/kept.html"
+    catches_in_tree "another module in docs/stepper.html" "stepper.html or" docs/stepper.html '/id="module">/{n;s/^.../AAA/}' \
         python3 web/make.py --kept "$room/kept.html"
     catches_in_tree "another figure on the site" "its figures are" docs/index.html 's/2014\.5/201.45/' python3 tests/docs/site.py --text
     catches_in_tree "other code on the site" "examples/c/small.c hasn't" docs/index.html 's/NIDZARU_REGISTER/NIDZARU_CELL/' python3 tests/docs/site.py --text
