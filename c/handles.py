@@ -1,5 +1,5 @@
 """What crates/c_handles has for each side and place that C may have: a struct of its own with just that side (side.rt), the handle that
-C passes, whose box is an erased pointer (handles/), and the proofs, which cite one lemma for all of them (proofs/AnyLoose) at the row
+C passes, whose box is an erased pointer (handles/), and the proofs, which cite the lemmas for all of them (proofs/AnyLoose) at the row
 of each (proofs/Rows). `c/exports.py` writes and compares them.
 
 A handle's `live` is the number of its type where it has a side. 0 is no side, and 255 a call that runs or was cut off."""
