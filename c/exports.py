@@ -250,7 +250,8 @@ def made():
     for call in ("hold", "loan"):
         answers = read(handles.TEMPLATES, f"{call}_answers.antt.template")
         for size in SIZES:
-            files[f"c_exports/proofs/exports/triple_{size}/nidzaru_triple_{size}_{call}/Answers.antt"] = answers.replace("@FILE@", f"triple_{size}")
+            at = f"c_exports/proofs/exports/triple_{size}/nidzaru_triple_{size}_{call}"
+            files[f"{at}/Answers.antt"] = answers.replace("@FILE@", f"triple_{size}")
     return {name: MADE[os.path.splitext(name)[1]] + text for name, text in files.items()}
 
 

@@ -310,7 +310,8 @@ typedef struct nidzaru_lent {
 } nidzaru_lent;
 
 /* Of a triple buffer three more. The first two, which are passed no words, make `at` those of the record of the last read or look, which
- * nobody writes through it, and those of the record in the writer's slot. The third one shows that one to the reader, under the next number. */
+ * nobody writes through it, and those of the record in the writer's slot. The third one shows that one to the reader, under the next
+ * number. */
 #define NIDZARU_DECLARE_HOLD(cell)                                                                                    \
     uint32_t nidzaru_##cell##_hold(nidzaru_side *reader, nidzaru_lent *at);                                           \
     uint32_t nidzaru_##cell##_loan(nidzaru_side *writer, nidzaru_lent *at);                                           \

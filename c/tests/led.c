@@ -1,6 +1,6 @@
-/* A second file for loaned.c's program, under the sanitizer of addresses: what the library is passed in a hold and a loan are no words, at an
- * address that isn't null and is aligned, and what comes back are as many as the record has, or none where it is refused. Link with --wrap=
- * for the hold and the loan of each triple buffer. */
+/* A second file for loaned.c's program, under the sanitizer of addresses: what the library is passed in a hold and a loan are no words, at
+ * an address that isn't null and is aligned, and what comes back are as many as the record has, or none where it is refused. Link with
+ * --wrap= for the hold and the loan of each triple buffer. */
 #include "nidzaru.h"
 #include <stdio.h>
 #include <stdlib.h>

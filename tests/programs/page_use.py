@@ -139,11 +139,11 @@ PLANTED = {
     "pictures": ("const LEAST_FIT = 0.6", "const LEAST_FIT = 0.001", "the picture of 60 operations is"),
     "addresses": ("const LINK = /^#(?!steps:)", "const LINK = /^#", "a link to steps shows beside them"),
     "by_link": (': new TextEncoder().encode($("text").value)', ': new TextEncoder().encode($("text").value + " ")', "a link leads to"),
-    "long_run": ("const says = () => {", "const says = () => { for (const now = Date.now(); Date.now() < now + 150; );", "the longest gap is"),
-    "ends": ('if (data.error) return fails("The module', 'if (data.error) put("", ""); if (data.error) return fails("The module', "a trap:"),
+    "long_run": ("const says = () => {", "const says = () => { for (const t = Date.now(); Date.now() < t + 150; );", "the longest gap is"),
+    "ends": ('if (data.error) return fails("The module', 'if (data.error) return put("", ""), fails("The module', "a trap:"),
     "reading": ('<label for="text">', "<label>", "a textbox has no name"),
     "mechanism": ("history.replaceState(null, \"\", state.hash)", "0", "the steps stand in the address as"),
-    "narrow": ('$("verdict").scrollIntoView({ block: "nearest" });\n      return example', "return example", "after a tap the verdict stands at"),
+    "narrow": ('$("verdict").scrollIntoView({ block: "nearest" });\n      return', "return", "after a tap the verdict stands at"),
     "screens": ("--back: #14181e; --ink: #e4e8ee", "--back: #14181e; --ink: #44484e", "dark: hard to read are"),
 }
 NAMED = {"button", "textbox", "combobox", "tab", "tabpanel", "link", "progressbar", "image", "img", "region", "heading", "group", "list"}
@@ -232,7 +232,7 @@ class Use:
                 self.shot(name.partition(".")[0])
 
     def sentences(self):
-        """What is wrong stands in words beside the verdict, with the lines that it names; and what an order says, and which key it is of."""
+        """What is wrong stands in words beside the verdict, with the lines that it names; what an order says, and which key it is of."""
         for name, begin in SAID.items():
             self.after(f"example('{name}.jsonl')")
             self.need(self.shown()[1].startswith(begin), f"of {name} the page says {self.shown()[1]}")
@@ -265,7 +265,8 @@ class Use:
             self.js(f"(window.one = new File([{json.dumps(in_one_document(rows))}], 'one line'), 0)")
             self.needs(self.after("take(one)"), "good", f"a document of {number} operations in one line")
             self.js("(mark('operation', 150), 0)")
-            self.need(self.waits(f"({SELECTED}) === {json.dumps(rows[150])}"), f"of {number} operations number 150 leads to {self.selected()[:80]}")
+            leads = self.waits(f"({SELECTED}) === {json.dumps(rows[150])}")
+            self.need(leads, f"of {number} operations number 150 leads to {self.selected()[:80]}")
             # (it stands far to the right, or the part that is shown begins near it)
             seen = self.js("[$('text').scrollLeft, $('text').selectionStart]")
             self.need(seen[0] > 1000 and abs(seen[1] * 7.8 - seen[0]) < 600, f"of {number} operations number 150 isn't seen: {seen}")
@@ -391,7 +392,8 @@ class Use:
         for place in ("log", "mechanism"):
             self.js(f"(openPanel('{place}'), 0)")
             self.after(f"location.hash = {json.dumps(hash_)}")
-            self.need(self.text() == LAWFUL and self.js("!$('log').hidden"), f"a link to a document in the address of the {place} isn't followed")
+            follows = self.text() == LAWFUL and self.js("!$('log').hidden")
+            self.need(follows, f"a link to a document in the address of the {place} isn't followed")
             self.after("example('crossed.json')")
         self.after(f"(put({json.dumps(STALE)}, ''), location.hash = '#:abc')")
         self.need(self.shown()[0] == "The link is damaged" and self.text() == STALE, f"a damaged link leaves {self.shown()}, {self.text()}")
@@ -474,7 +476,8 @@ class Use:
         self.needs(self.after("example('lines_stale.jsonl')"), "odd", "no memory")
         self.need(self.shown()[0] == "Out of memory" and self.text() == STALE, f"no memory: {self.shown()}")
         self.js("($('bound').value = 2 ** 26, 0)")
-        self.needs(self.after("take(new File([' '.repeat(8e6)], 'long'), { command: 'picture' })"), "odd", "a long document in little memory")
+        ready = self.after("take(new File([' '.repeat(8e6)], 'long'), { command: 'picture' })")
+        self.needs(ready, "odd", "a long document in little memory")
         self.need(self.shown()[0].startswith("Refused"), f"of a long document in little memory the page says {self.shown()}")
         self.js("($('bound').value = 2 ** 32, 0)")
         deep = dict(of_extremes())["nested as deep as may be"].decode()

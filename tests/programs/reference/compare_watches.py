@@ -3,8 +3,9 @@
     compare_watches.py [--logs N] [--seed S] [--many] PROGRAM WORD ..
 
 The log is on standard input of the program with these words. Some of the logs are judged with a budget as well, and then may have no
-answer. With --many the logs are longer, and have so many records that most are forgotten at a floor and some of these come again. The last lines are how many logs gave the same bytes and status, by kind of ending, and how many there were, by their verdict. The
-first difference ends the run with status 1, with the log kept in the file that is named. None at all is status 1.
+answer. With --many the logs are longer, and have so many records that most are forgotten at a floor and some of these come again. The last
+lines are how many logs gave the same bytes and status, by kind of ending, and how many there were, by their verdict. The first difference
+ends the run with status 1, with the log kept in the file that is named. None at all is status 1.
 """
 
 import argparse

@@ -103,8 +103,8 @@ def most_before(opening, ops):
 
 
 def small(data, lines):
-    """What `--small` prints of a log that has this reason: a document of kind `log` of the lines that it names. A record has the number of the
-    line that wrote it, 0 if it is the opening, and else that of the operation's own line; tasks have those of their first operations."""
+    """What `--small` prints of a log that has this reason: a document of kind `log` of the lines that it names. A record has the number of
+    the line that wrote it, 0 if it is the opening, and else that of the operation's own line; tasks have those of their first operations."""
     opening, limit, ops, _ = read(data)
     named = named_by(lines, ops)
     shown = [ops[line - 2] for line in named]
