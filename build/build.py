@@ -283,6 +283,8 @@ class Builder:
         self.left, self.kit = list(crates), kit
         self.built, self.refused, self.works, self.told = set(), set(), {}, set()
         self.processors, self.memory = processors(), 0.85 * free_memory()
+        # (whoever allots processors gets no job more)
+        self.shared = 0 if os.environ.get("RT_JOBS") else 1
         self.selector = selectors.DefaultSelector()
         self.behind = {it: it.weight() for it in crates}
         for it in reversed(crates):
@@ -291,14 +293,19 @@ class Builder:
 
     def jobs_now(self, crate, ready):
         """How many jobs a proof gets that is the first of so many, 0 where it has to wait. A job more costs processor time, as each reads
-        what lies below. So a proof gets several only where processors would have nothing to do: first that with the longest chain behind
-        it, for which all wait."""
+        what lies below. So a proof gets several only where processors would have nothing to do, or where the chain behind it would
+        outlast all that is left. Then one of its jobs may share a processor."""
         longest = all(self.behind[crate] >= self.behind[it] for it in self.works)
-        most = 1 if crate.is_program or crate.weight() < SMALL else LONGEST_JOBS if longest else MOST_JOBS
         left = self.processors - sum(it.jobs for it in self.works.values())
         free = self.memory - sum(it.memory() for it in self.works.values())
-        wanted = max(left - ready + 1, 1)
-        jobs = min(wanted, most, left, 1 + int((free - FIRST_JOB) // NEXT_JOB))
+        if left < 1 or crate.is_program or crate.weight() < SMALL:
+            wanted = min(left, 1)
+        else:
+            idle = min(left - ready + 1, LONGEST_JOBS if longest else MOST_JOBS)
+            unbuilt = sum(it.weight() for it in [*self.left, *self.works])
+            chain = min(round(self.behind[crate] * self.processors / unbuilt), LONGEST_JOBS, left + self.shared)
+            wanted = max(idle, chain, 1)
+        jobs = min(wanted, 1 + int((free - FIRST_JOB) // NEXT_JOB))
         return jobs if jobs > 0 or self.works else 1
 
     def start_ready(self):
