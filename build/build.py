@@ -46,7 +46,7 @@ FIRST_JOB, NEXT_JOB = 2_000_000_000, 700_000_000
 # `serde_json::Value` keeps what is stated of all that this type reaches.)
 BEYOND = {"clap": 75, "serde_json": 20}
 # The programs that answer first. Rattle's own code generator makes them, in half of the time that LLVM takes.
-FIRST = ("fsr_check", "fsr_once", "fsr_order", "fsr_coherent", "fsr_play", "fsr_watch")
+FIRST = ("fsr_check", "fsr_log", "fsr_once", "fsr_order", "fsr_coherent", "fsr_play", "fsr_watch")
 # Seconds after which a folder that another build works in is asked for again.
 PAUSE = 1
 

@@ -416,35 +416,67 @@ if [ -c /dev/full ]; then
     ends_picture "picture into a full output" examples/lawful.json /dev/full 5 "picture: write failed"
 fi
 
-# The program for logs whose records don't repeat answers each example as `fsr order` does, but refuses the header of another log.
+# The programs for documents and for logs in lines whose records don't repeat answer the examples of theirs as `fsr order` does; the other
+# examples are refused, a document for its kind, and a log that repeats for its header.
 answers_once() {
-    title="fsr_once and fsr order on the examples"
-    if ! has_program fsr || ! has_program fsr_once; then
-        fail "$title" "fsr or fsr_once wasn't built"
+    title="fsr_log, fsr_once and fsr order on the examples"
+    if ! has_program fsr || ! has_program fsr_log || ! has_program fsr_once; then
+        fail "$title" "fsr, fsr_log or fsr_once wasn't built"
         return
     fi
     different='' refused=0
     for document in examples/*.json examples/*.jsonl; do
-        if head -n 1 "$document" | grep -q '"repeats":true'; then
-            refused=$((refused + 1))
-            printf 'fsr: line 1: law of repeats\n3\n' >"$room/wanted"
-        else
-            { "$built/fsr/out/fsr" order <"$document" 2>&1; echo $?; } >"$room/wanted"
-        fi
+        { "$built/fsr/out/fsr" order <"$document" 2>&1; echo $?; } >"$room/wanted"
+        case $document in
+        *.json)
+            { "$built/fsr_log/out/fsr_log" <"$document" 2>&1; echo $?; } >"$room/out"
+            cmp -s "$room/out" "$room/wanted" || different="$different $document"
+            printf 'fsr: document: kind\n3\n' >"$room/wanted"
+            ;;
+        *)
+            if head -n 1 "$document" | grep -q '"repeats":true'; then
+                refused=$((refused + 1))
+                printf 'fsr: line 1: law of repeats\n3\n' >"$room/wanted"
+            fi
+            ;;
+        esac
         { "$built/fsr_once/out/fsr_once" <"$document" 2>&1; echo $?; } >"$room/out"
         cmp -s "$room/out" "$room/wanted" || different="$different $document"
     done
     if [ -z "$different" ] && [ "$refused" -gt 1 ]; then pass "$title"; else fail "$title" "$refused repeat, and it differs on:$different"; fi
 }
 
+# Bytes that are no document are refused alike by each program, by whichever of them `./fsr` takes for their first line.
+refuses_alike() {
+    title="fsr_log, fsr_once and fsr order on what is no document"
+    different=''
+    for text in '{"kind":"lines","opening":0,}' '{"kind":"lines","opening":0' '{"kind":"lines"x}' ''; do
+        printf '%s\n' "$text" >"$room/none"
+        { "$built/fsr/out/fsr" order <"$room/none" 2>&1; echo $?; } >"$room/wanted"
+        for program in fsr_log fsr_once; do
+            { "$built/$program/out/$program" <"$room/none" 2>&1; echo $?; } >"$room/out"
+            cmp -s "$room/out" "$room/wanted" || different="$different $program: $text"
+        done
+    done
+    if [ -z "$different" ]; then pass "$title"; else fail "$title" "it differs on$different"; fi
+}
+
 answers_once
+refuses_alike
 make_stub fsr <<'STUB'
 exec crates/fsr/out/fsr "$@"
+STUB
+make_stub fsr_log <<'STUB'
+exec crates/fsr/out/fsr order
 STUB
 make_stub fsr_once <<'STUB'
 exec crates/fsr/out/fsr order
 STUB
-catches "a log that repeats, answered" "it differs on: examples/lines_cas.jsonl" over_stubs answers_once
+catches "a log that repeats, answered" "examples/lines_cas.jsonl" over_stubs answers_once
+make_stub fsr_once <<'STUB'
+cat >/dev/null && echo 'fsr: line 1: not JSON' >&2 && exit 3
+STUB
+catches "a header that is no JSON, told as a log's" 'it differs on fsr_once: {"kind":"lines","opening":0,}' over_stubs refuses_alike
 
 # Where a program can't be built the script ends with a status of its own, and says so on standard error alone.
 mkdir -p "$room/bare/docs/dev" "$room/bare/docs/man" "$room/bare/crates" && cp -r fsr picture soak crates.txt build "$room/bare/" \
@@ -488,6 +520,7 @@ make_small() {
     mkdir -p "$room/bare/crates/$1/out" && printf '#!/bin/sh\ncat >"$READ"\n%s\n' "$2" >"$room/bare/crates/$1/out/$1" && chmod +x "$room/bare/crates/$1/out/$1"
 }
 make_small fsr_check 'echo "fsr: document: not JSON" >&2; exit 3'
+make_small fsr_log 'echo "log $*"'
 make_small fsr_once 'echo "once $*"'
 make_small fsr_coherent 'echo "coherent $*"'
 make_small fsr_play 'echo "play $*"; exit 1'
@@ -508,22 +541,40 @@ answers_small() {
     fi
 }
 
-# A log whose records don't repeat needs the least. Another one is known by its first line, however the key is written there; of what
-# isn't read from the beginning of a file no line is looked at.
+# A document and a log in lines whose records don't repeat have programs of their own. Each is known by its first line, unless that doesn't
+# tell, as where a key of another log is written with a backslash; of what isn't read from the beginning of a file no line is looked at.
 answers_small 0 "once " "$room/stale.jsonl" order "$room/stale.jsonl"
 answers_small 0 "once --strict" "$room/stale.jsonl" order --strict
-answers_small 0 "once " examples/lawful.json order
+answers_small 0 "log " examples/lawful.json order
+answers_small 0 "log " examples/lawful.json order examples/lawful.json --small
+printf ' { "opening" : [1, 2], "kind" : "lines" } \r\n' >"$room/spaced.jsonl"
+printf '{"kind":"lines","opening":0,}\n' >"$room/broken.jsonl"
+printf '{\n"kind":"lines","opening":0}\n' >"$room/parted.jsonl"
+answers_small 0 "once " "$room/spaced.jsonl" order
+answers_small 0 "once " "$room/broken.jsonl" order
+answers_small 0 "log " "$room/parted.jsonl" order
 sed 's/"repeats"/"rep\\u0065ats"/' examples/lines_cas.jsonl >"$room/spelt.jsonl"
-gives_unbuilt 70 '' 'build: ' order examples/lines_cas.jsonl
-gives_unbuilt 70 '' 'build: ' order "$room/spelt.jsonl"
+printf '{"lines":[2,3],\n"kind":"log"}\n' >"$room/told.json"
+printf '{"kind":"lines","opening":0,"kind":"log"}\n' >"$room/twice.json"
+printf '{"kind":"log","opening":{"kind":"lines"}}\n' >"$room/inner.json"
+printf '{"kind":"lines","k\\u0069nd":"log"}\n' >"$room/other.json"
+for document in examples/lines_cas.jsonl "$room/spelt.jsonl" "$room/told.json" "$room/twice.json" "$room/inner.json" "$room/other.json"; do
+    gives_unbuilt 70 '' 'build: ' order "$document"
+done
+gives_unbuilt 70 '' 'build: ' order --budget 9 examples/lawful.json
 gives_unbuilt 70 '' 'build: ' order
 title="./fsr order behind the first line of a file where it isn't built"
 { echo && cat examples/lines_cas.jsonl; } >"$room/behind.jsonl"
 { read -r empty && PATH=/usr/bin:/bin "$room/bare/fsr" order >"$room/out" 2>"$room/err"; } <"$room/behind.jsonl"
 status=$?
 if [ "$status" = 70 ]; then pass "$title"; else fail "$title" "it ended with status $status"; fi
-sed -i.kept 's/^may_repeat() {$/&\n    return 1/' "$room/bare/fsr"
-catches "a first line that isn't looked at" "it ended with status 0" gives_unbuilt 70 '' 'build: ' order examples/lines_cas.jsonl
+for program in fsr_once fsr_log; do
+    sed -i.kept "s/^program_of_log() {$/&\n    echo $program \&\& return/" "$room/bare/fsr"
+    catches "a first line that isn't looked at ($program)" "it ended with status 0" gives_unbuilt 70 '' 'build: ' order examples/lines_cas.jsonl
+    mv "$room/bare/fsr.kept" "$room/bare/fsr"
+done
+sed -i.kept 's/"kind"\.\*"kind"/"kind".*"other"/' "$room/bare/fsr"
+catches "a second kind in a header, unseen" "it ended with status 0" gives_unbuilt 70 '' 'build: ' order "$room/twice.json"
 mv "$room/bare/fsr.kept" "$room/bare/fsr"
 
 # A program that answers all logs is taken where it is built.

@@ -1,5 +1,5 @@
-//! `fsr_once`: `fsr order` alone, of logs whose records are written once: it is built without what other logs need. It
-//! takes one of the words of `fsr order`.
+//! `fsr_once`: `fsr order` alone, of logs in lines whose records are written once: it is built without what other logs
+//! need. It takes one of the words of `fsr order`.
 #![tactic(auto)]
 
 use fsr_once_answers::run;

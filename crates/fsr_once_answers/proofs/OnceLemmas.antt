@@ -7,12 +7,11 @@ use Rattle.program_runs.specs.declared.show.Show.{Show}
 use Rattle.read_document.specs.Kinds.{are_lines}
 use Rattle.read_line.specs.Repeats.{has_repeats}
 use Rattle.fsr_once_answers.proofs.KeysLemmas.{status_keys}
-use Rattle.fsr_log_answers.proofs.LogLemmas.{low_log}
 use Rattle.fsr_once_answers.proofs.SmallStatusLemmas.{status_small}
 use Rattle.fsr_once_answers.proofs.StatusLemmas.{status_lines}
 use Rattle.fsr_once_answers.specs.ByKeys.{IsAnswerByKeys, IsAnswerIfSmall, is_other_key}
 use Rattle.fsr_once_answers.specs.KeysAnswers.{IsKeysAnswer}
-use Rattle.fsr_once_answers.specs.Once.{IsOnceBy, IsOnceInLines, IsAnswerOnce}
+use Rattle.fsr_once_answers.specs.Once.{IsOnceBy, IsOnceInLines, IsOtherDocument, IsAnswerOnce}
 
 status_if_small : (show : Show) (small : Bool) (bytes : List ℕ) (r : Result Answer Fault) →
     GivesReply (IsAnswerIfSmall show small bytes) r → HasAnswerStatus r
@@ -51,10 +50,14 @@ status_in_lines show true bytes (Ok a) refused = cc
 status_in_lines show true bytes (Err e) refused = search rules
 status_in_lines show false bytes r answered = status_by_keys show bytes r answered
 
+status_other : (bytes : List ℕ) (r : Result Answer Fault) → GivesReply (IsOtherDocument bytes) r → HasAnswerStatus r
+status_other bytes (Ok a) refused = cc
+status_other bytes (Err e) refused = search rules
+
 status_by : (show : Show) (in_lines : Bool) (bytes : List ℕ) (r : Result Answer Fault) →
     GivesReply (IsOnceBy show in_lines bytes) r → HasAnswerStatus r
 status_by show true bytes r answered = status_in_lines show (has_repeats bytes) bytes r answered
-status_by show false bytes r answered = low_log bytes r answered
+status_by show false bytes r answered = status_other bytes r answered
 
 pub status_once : (show : Show) (bytes : List ℕ) (r : Result Answer Fault) → GivesReply (IsAnswerOnce show bytes) r → HasAnswerStatus r
 status_once show bytes r answered = status_by show (are_lines bytes) bytes r answered

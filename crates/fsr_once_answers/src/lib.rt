@@ -1,6 +1,5 @@
-//! What `fsr` answers to a log whose records are written once, in lines or as a document of kind `log`: a lawful order
-//! of it, or the reason why there is none; or the small log that shows the reason. Operations of several keys are
-//! judged key by key.
+//! What `fsr` answers to a log in lines whose records are written once: a lawful order of it, or the reason why there
+//! is none; or the small log that shows the reason. Operations of several keys are judged key by key.
 #![tactic(auto)]
 
 mod answer;

@@ -1,21 +1,22 @@
-//! Logs of either kind whose records are written once.
+//! Logs in lines whose records are written once.
+ghost use Rattle.std.specs.Prelude.{◌≡◌};
 ghost use Rattle.program_runs.specs.Answers.{GivesReply};
 ghost use Rattle.read_line.specs.Repeats.{has_repeats};
-ghost use Rattle.fsr_once_answers.specs.Once.{IsOnceInLines, IsAnswerOnce};
+ghost use Rattle.fsr_once_answers.specs.Once.{IsAnswerOnce, IsOnceInLines, IsOtherDocument, other_fault};
 
 use crate::by_keys::order_by_keys;
-use fsr_log_answers::order_document;
 use lines_log::refused_at;
-use program_runs::{Answer, Fault, Show};
+use program_runs::{Answer, Fault, LinesFault, Show};
 use read_document::{DocError, Key, are_lines};
-use read_line::has_repeats;
+use read_line::{has_repeats, read_header};
 use std::alloc::Global;
 
 /// The line of the header.
 const HEADER: usize = 1;
 
-/// The answer of the command `order` to the bytes of a document whose log writes each record once: a lawful order of
-/// it, or the reason why there is none. A log in lines is told by its first line, and refused if its records repeat.
+/// The answer of the command `order` to the bytes of a log in lines that writes each record once: a lawful order of it,
+/// or the reason why there is none. A log in lines is told by its first line, and refused if its records repeat; any
+/// other document is refused for its kind.
 pub fn order_once(alloc: Global, show: Show, bytes: &[u8]) -> Result<Answer, Fault>
     ensures { GivesReply (IsAnswerOnce show bytes.now) result }
 {
@@ -23,7 +24,7 @@ pub fn order_once(alloc: Global, show: Show, bytes: &[u8]) -> Result<Answer, Fau
     if in_lines {
         order_in_lines(alloc, show, bytes)
     } else {
-        order_document(alloc, bytes)
+        refuse_other(alloc, bytes)
     }
 }
 
@@ -36,5 +37,26 @@ fn order_in_lines(alloc: Global, show: Show, bytes: &[u8]) -> Result<Answer, Fau
         Err(refused_at(HEADER, DocError::Law(Key::Repeats)))
     } else {
         order_by_keys(alloc, show, bytes)
+    }
+}
+
+/// The refusal of bytes that are no log in lines.
+fn refuse_other(alloc: Global, bytes: &[u8]) -> Result<Answer, Fault>
+    ensures { GivesReply (IsOtherDocument bytes.now) result }
+{
+    match read_header(alloc, bytes) {
+        Ok(_) => Err(Fault::Document(DocError::Kind)),
+        Err(why) => Err(other_fault(why)),
+    }
+}
+
+/// How it is told that bytes are no document, or one of another kind.
+fn other_fault(why: DocError) -> Fault
+    ensures { result ≡ other_fault why }
+{
+    match why {
+        DocError::NotJson | DocError::Long => Fault::Lines(LinesFault::Headless { why }),
+        DocError::NoMemory => Fault::NoMemory,
+        _ => Fault::Document(DocError::Kind),
     }
 }

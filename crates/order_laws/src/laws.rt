@@ -16,14 +16,16 @@ ghost use Rattle.lines_log.specs.declared.lines_log.LinesLog.{LinesLog};
 ghost use Rattle.program_runs.specs.declared.fault.Answer.{Answer};
 ghost use Rattle.program_runs.specs.declared.fault.Fault.{Fault};
 ghost use Rattle.program_runs.specs.declared.show.Show.{Show};
-ghost use Rattle.read_line.specs.Repeats.{has_repeats};
+ghost use Rattle.read_document.specs.Kinds.{are_lines};
 ghost use Rattle.small_log.specs.Small.{small_ops};
+ghost use Rattle.fsr_log_answers.specs.Logs.{IsLogAnswer};
 ghost use Rattle.fsr_once_answers.specs.ByKeys.{IsAnswerByKeys, IsAnswerIfSmall};
 ghost use Rattle.fsr_once_answers.specs.LinesAnswers.{status_of};
 ghost use Rattle.fsr_once_answers.specs.Once.{IsAnswerOnce};
 ghost use Rattle.fsr_once_answers.specs.Text.{shown_text};
 ghost use Rattle.fsr_order_answers.specs.Order.{IsOrderAnswer};
 ghost use Rattle.order_laws.specs.OneKey.{AreOfOneKey};
+ghost use Rattle.order_laws.specs.Parts.{IsOnceOrNone};
 
 use history_thinning::laws::tasks_in_order;
 
@@ -61,8 +63,15 @@ pub fn small_is_unlawful()
         (order : List ℕ) → ¬ IsVerdict Equal 0 (one_term limit) (small_ops thinned reason) order Lawful }
 {}
 
-/// The answer to a log whose records don't repeat, by itself, is an answer of the command.
+/// The answer to a log in lines whose records don't repeat, by itself, is an answer of the command; so is its refusal
+/// of what is no document.
 pub fn once_as_any()
-    ensures { (show : Show) (bytes : List ℕ) (reply : Result Answer Fault) → has_repeats bytes ≡ false →
+    ensures { (show : Show) (bytes : List ℕ) (reply : Result Answer Fault) → IsOnceOrNone bytes →
         IsAnswerOnce show bytes reply → IsOrderAnswer show bytes reply }
+{}
+
+/// The answer to a document of kind `log`, by itself, is an answer of the command.
+pub fn document_as_any()
+    ensures { (show : Show) (bytes : List ℕ) (reply : Result Answer Fault) → are_lines bytes ≡ false →
+        IsLogAnswer bytes reply → IsOrderAnswer show bytes reply }
 {}
