@@ -1,6 +1,6 @@
-# How build/build.py builds, tried on two small crates: what was changed is proved and built again with what stands above it and nothing
-# else, what isn't proved isn't built, and of two builds at once one waits. The crates below each are the same for the shell and for
-# Python.
+# How many jobs build/build.py gives; and how it builds, tried on two small crates: what was changed is proved and built again with what
+# stands above it and nothing else, what isn't proved isn't built, and of two builds at once one waits. The crates below each are the same
+# for the shell and for Python.
 
 # Lays out a repository with these scripts and a program over a library, in a folder with a blank in its name.
 lay_out_crates() {
@@ -102,6 +102,42 @@ BELOW
     [ -s "$room/by_shell" ] && sed -i 's/ *$//' "$room/by_shell" "$room/by_python" && diff "$room/by_shell" "$room/by_python"
 }
 
+# Sees that a build gives as many jobs as are allotted and no more, by what it chooses for a program where the cheapest proof always ends
+# first.
+give_jobs() {
+    for allotted in 1 2 4; do
+        given=$(
+            RT_JOBS=$allotted python3 - <<'GIVEN'
+import sys
+
+sys.path.insert(0, "build")
+import build
+
+
+class Chosen(build.Work):
+    def __init__(self, crate, kit, jobs, held):
+        self.crate, self.jobs = crate, jobs
+
+
+build.Work, build.lock, build.say, build.os.makedirs = Chosen, lambda *_: [], lambda _: None, lambda *_, **__: None
+build.free_memory = lambda: 1 << 40
+build.Builder.finds_built = lambda *_: False
+build.Builder.begin = lambda self, work: self.works.update({work.crate: work})
+program = build.read_crates()["fsr_once"]
+builder, given = build.Builder([*program.below, program], None), 0
+while builder.left:
+    builder.start_ready()
+    given = max(given, sum(it.jobs for it in builder.works.values()))
+    ended = min(builder.works, key=build.Crate.weight)
+    del builder.works[ended]
+    builder.built.add(ended)
+print(given)
+GIVEN
+        )
+        [ "$given" = "$allotted" ] || { echo "of $allotted allotted $given were given" && return 1; }
+    done
+}
+
 if ! command -v python3 >/dev/null 2>&1; then
     fail "build/build.py" "there is no python3"
 else
@@ -112,6 +148,13 @@ else
     fi
     catches_in_tree "a closure without a crate's last word" "^> history_check history_core" build/build.sh 's/i <= count; i++/i < count; i++/' \
         compare_below
+    if give_jobs >"$room/out" 2>&1; then
+        pass "no more jobs are given than are allotted"
+    else
+        fail "no more jobs are given than are allotted" "$(tail -n 2 "$room/out" | tr '\n' ' ')"
+    fi
+    catches_in_tree "a job more than is allotted" "^of 4 allotted 5 were given" build/build.py 's/self.shared = .*/self.shared = 1/' \
+        give_jobs
     lay_out_crates
     builds "a program and its library are proved and built" 0 "high low " 7
     builds "what is built isn't built again" 0 "" 7
