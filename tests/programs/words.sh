@@ -553,12 +553,13 @@ printf '{\n"kind":"lines","opening":0}\n' >"$room/parted.jsonl"
 answers_small 0 "once " "$room/spaced.jsonl" order
 answers_small 0 "once " "$room/broken.jsonl" order
 answers_small 0 "log " "$room/parted.jsonl" order
+printf '{"kind":"log","lines":[2,3],\n"opening":0}\n' >"$room/told.json"
+answers_small 0 "log " "$room/told.json" order
 sed 's/"repeats"/"rep\\u0065ats"/' examples/lines_cas.jsonl >"$room/spelt.jsonl"
-printf '{"lines":[2,3],\n"kind":"log"}\n' >"$room/told.json"
 printf '{"kind":"lines","opening":0,"kind":"log"}\n' >"$room/twice.json"
 printf '{"kind":"log","opening":{"kind":"lines"}}\n' >"$room/inner.json"
 printf '{"kind":"lines","k\\u0069nd":"log"}\n' >"$room/other.json"
-for document in examples/lines_cas.jsonl "$room/spelt.jsonl" "$room/told.json" "$room/twice.json" "$room/inner.json" "$room/other.json"; do
+for document in examples/lines_cas.jsonl "$room/spelt.jsonl" "$room/twice.json" "$room/inner.json" "$room/other.json"; do
     gives_unbuilt 70 '' 'build: ' order "$document"
 done
 gives_unbuilt 70 '' 'build: ' order --budget 9 examples/lawful.json
