@@ -2,3 +2,4 @@ mod LittleLemmas
 mod OnceLemmas
 mod OneKeyLemmas
 pub mod SmallLemmas
+pub mod ToldLemmas

@@ -1,16 +1,17 @@
--- The small log of an unlawful one is unlawful by the same rule.
-use Rattle.std.proofs.Common.{◌≡◌, ℕ, ◌+◌, ◌<◌, zero, suc, Bool, true, false, List, [], ◌∷◌, ◌++◌, length, slice_get, Option, None, Some}
-use Rattle.std.proofs.Common.{◌⊎◌, inl, inr, refl, sym, ◌∙◌, ap, subst, arith}
-use Rattle.std.specs.Prelude.{◌==◌, ◌||◌, if◌then◌else◌, cond, nat_eq, not}
+-- The small log of an unlawful one, as it is told, is unlawful by the same rule.
+use Rattle.std.proofs.Common.{◌≡◌, ℕ, ◌+◌, ◌<◌, ◌≤◌, zero, suc, Bool, true, false, List, [], ◌∷◌, ◌++◌, length, map, slice_get}
+use Rattle.std.proofs.Common.{Option, None, Some, ◌⊎◌, inl, inr, refl, sym, ◌∙◌, ap, subst, arith}
+use Rattle.std.specs.Prelude.{◌==◌, ◌&&◌, ◌||◌, if◌then◌else◌, cond, nat_eq, not}
 use Rattle.std.specs.List.{list_any}
 use Rattle.std.proofs.lemmas.Bool.{cases_lt, cases_order}
 use Rattle.std.proofs.lemmas.Bool.Decides.{nat_tests}
-use Rattle.std.proofs.lemmas.List.{append-nil}
-use Rattle.std.proofs.lemmas.Option.{same_Some, slice_get_within}
-use Rattle.history_core.proofs.Atomic.{IsSearched, no_crossing, no_early, no_stale, no_unwritten}
+use Rattle.std.proofs.lemmas.List.{append-nil, length_push}
+use Rattle.std.proofs.lemmas.Option.{same_Some, slice_get_cases, slice_get_within}
+use Rattle.history_core.proofs.Atomic.{IsSearched, no_crossing, no_early, no_stale, no_unwritten, of_one, shares}
 use Rattle.history_core.proofs.Places.{get_last, get_pushed_cases, get_stays}
-use Rattle.history_core.specs.Orders.{IsVerdict}
-use Rattle.history_core.specs.Reasons.{IsReason, rule_of}
+use Rattle.history_core.specs.Orders.{IsVerdict, is_write}
+use Rattle.history_core.specs.Reasons.{IsReason, IsUnwritten, OfOneRecord, rule_of}
+use Rattle.history_core.specs.Searches.{IsUnlawful}
 use Rattle.history_core.specs.declared.history.Op.{Op}
 use Rattle.history_core.specs.declared.history.Verdict.TheVariants.{Lawful}
 use Rattle.history_core.specs.declared.reason.Reason.{Reason}
@@ -18,10 +19,12 @@ use Rattle.history_core.specs.declared.reason.Reason.TheVariants.{Unwritten, Ear
 use Rattle.history_core.specs.declared.thinned.Thinned.{Thinned}
 use Rattle.history_thinning.specs.Answers.{IsKeptAt, NamesKept}
 use Rattle.history_thinning.specs.Thinnings.{Equal, IsThinnedLog, one_term}
-use Rattle.history_thinning.proofs.Reasons.{alike, kept_at, kept_known, place_of, searched}
+use Rattle.history_thinning.proofs.Reasons.{alike, kept_at, kept_known, place_of, searched, write_kept}
 use Rattle.print_reasons.specs.KeptAt.{kept_at as kept_place}
-use Rattle.print_reasons.specs.Named.{in_kept, is_named, places_of, writes_one_of}
-use Rattle.small_log.specs.Small.{named_of, one_or_none, small_ops}
+use Rattle.print_reasons.specs.Named.{in_kept, is_item, is_named, places_of, same_item, writes_one_of}
+use Rattle.read_line.specs.Places.{line_at}
+use Rattle.small_log.specs.Small.{lines_of, named_of, one_or_none, small_lines, small_ops, told_ops}
+use Rattle.order_laws.proofs.ToldLemmas.{AreLines, reason_back, reason_on, told_known, unwritten_on}
 
 -- the first place of a number that stands there
 first_at : (places : List ℕ) (i p : ℕ) → slice_get places i ≡ Some p → slice_get places (kept_place places p) ≡ Some p
@@ -48,11 +51,11 @@ module _ (ops : List (Op ℕ)) (named : List ℕ) where
   -- with one more place
   one_more : (b : Bool) (x : Option (Op ℕ)) (xs : List (Op ℕ)) (i : ℕ) (o : Op ℕ) →
       slice_get (xs ++ (if b then one_or_none x else [])) i ≡ Some o →
-      (slice_get xs i ≡ Some o) ⊎ ((i ≡ length xs) × (x ≡ Some o))
+      (slice_get xs i ≡ Some o) ⊎ ((i ≡ length xs) × (x ≡ Some o) × (b ≡ true))
   one_more true None xs i o e = inl (ap (λ z. slice_get z i) (sym (append-nil xs)) ∙ e)
   one_more true (Some a) xs i o e = elim (get_pushed_cases xs a i o e) [
     | inl old ↦ inl old
-    | inr new ↦ inr (new.0, ap Some new.1)
+    | inr new ↦ inr (new.0, ap Some new.1, refl)
   ]
   one_more false x xs i o e = inl (ap (λ z. slice_get z i) (sym (append-nil xs)) ∙ e)
 
@@ -62,12 +65,13 @@ module _ (ops : List (Op ℕ)) (named : List ℕ) where
   still true (Some a) xs i o e = get_stays xs o a i e
   still false x xs i o e = ap (λ z. slice_get z i) (append-nil xs) ∙ e
 
-  -- an operation of the small log is one of the log
-  pub from : (n i : ℕ) (o : Op ℕ) → slice_get (named_of ops named n) i ≡ Some o → (p : ℕ) × (p < n) × (slice_get ops p ≡ Some o)
+  -- an operation of the small log is one of the log, and is named there
+  pub from : (n i : ℕ) (o : Op ℕ) → slice_get (named_of ops named n) i ≡ Some o →
+      (p : ℕ) × (p < n) × (slice_get ops p ≡ Some o) × (is_named ops named p ≡ true)
   from zero i o e = cc
   from (suc n) i o e = elim (one_more (is_named ops named n) (slice_get ops n) (named_of ops named n) i o e) [
-    | inl old ↦ let w = from n i o old in (w.0, let l = w.1 in omega (arith, l), w.2)
-    | inr new ↦ (n, omega arith, new.1)
+    | inl old ↦ let w = from n i o old in (w.0, let l = w.1 in omega (arith, l), w.2, w.3)
+    | inr new ↦ (n, omega arith, new.1, new.2)
   ]
 
   -- of two the one that stands first stands first in the log
@@ -110,6 +114,115 @@ module _ (ops : List (Op ℕ)) (named : List ℕ) where
       last true (Some a) t e = get_last (named_of ops named n) a (length (named_of ops named n)) refl ∙ e
       last false x t e = cc
 
+-- the lines of kept operations, whose places rise
+module _ (ops : List (Op ℕ)) (named places : List ℕ) (long : length places ≡ length ops)
+    (rise : (i j p q : ℕ) → i < j → slice_get places i ≡ Some p → slice_get places j ≡ Some q → p < q) where
+  one_more_line : (b : Bool) (x : Option ℕ) (xs : List ℕ) (i line : ℕ) →
+      slice_get (xs ++ (if b then map line_at (one_or_none x) else [])) i ≡ Some line →
+      (slice_get xs i ≡ Some line) ⊎ ((i ≡ length xs) × (q : ℕ) × (x ≡ Some q) × (line ≡ line_at q))
+  one_more_line true None xs i line e = inl (ap (λ z. slice_get z i) (sym (append-nil xs)) ∙ e)
+  one_more_line true (Some q) xs i line e = elim (get_pushed_cases xs (line_at q) i line e) [
+    | inl old ↦ inl old
+    | inr new ↦ inr (new.0, q, refl, sym new.1)
+  ]
+  one_more_line false x xs i line e = inl (ap (λ z. slice_get z i) (sym (append-nil xs)) ∙ e)
+
+  line_from : (n i line : ℕ) → slice_get (lines_of ops named places n) i ≡ Some line →
+      (p : ℕ) × (q : ℕ) × (p < n) × (slice_get places p ≡ Some q) × (line ≡ line_at q)
+  line_from zero i line e = cc
+  line_from (suc n) i line e = elim (one_more_line (is_named ops named n) (slice_get places n) (lines_of ops named places n) i line e) [
+    | inl old ↦ let w = line_from n i line old in (w.0, w.1, let l = w.2 in omega (arith, l), w.3, w.4)
+    | inr new ↦ (n, new.1, omega arith, new.2, new.3)
+  ]
+
+  lines_rise : (n i j a b : ℕ) → i < j → slice_get (lines_of ops named places n) i ≡ Some a →
+      slice_get (lines_of ops named places n) j ≡ Some b → a < b
+  lines_rise zero i j a b l ea eb = cc
+  lines_rise (suc n) i j a b l ea eb =
+      let before = lines_of ops named places n in
+      elim (one_more_line (is_named ops named n) (slice_get places n) before j b eb) [
+        | inl old ↦
+            let k : j < length before = slice_get_within before j b old in
+            elim (one_more_line (is_named ops named n) (slice_get places n) before i a ea) [
+              | inl e ↦ lines_rise n i j a b l e old
+              | inr e ↦ let same : i ≡ length before = e.0 in absurd (omega (arith, l, k, same))
+            ]
+        | inr new ↦
+            let at : j ≡ length before = new.0 in
+            elim (one_more_line (is_named ops named n) (slice_get places n) before i a ea) [
+              | inl e ↦
+                  let w = line_from n i a e in
+                  let less : w.1 < new.1 = rise w.0 n w.1 new.1 w.2 w.3 new.2 in
+                  let is_a : a ≡ w.1 + 2 = w.4 in
+                  let is_b : b ≡ new.1 + 2 = new.3 in
+                  omega (arith, less, is_a, is_b)
+              | inr e ↦ let same : i ≡ length before = e.0 in absurd (omega (arith, l, at, same))
+            ]
+      ]
+
+  lines_long : (n : ℕ) → n ≤ length ops → length (lines_of ops named places n) ≡ length (named_of ops named n)
+  lines_long zero le = refl
+  lines_long (suc n) le = elim (slice_get_cases ops n).1 [
+    | inl v ↦ elim (slice_get_cases places n).1 [
+      | inl w ↦ by (is_named ops named n) (slice_get ops n) (slice_get places n) v.0 w.0 v.2 w.2 (lines_long n (omega (arith, le)))
+      | inr past ↦ let f : length places ≤ n = past.0 in absurd (omega (arith, le, f, long))
+    ]
+    | inr past ↦ let f : length ops ≤ n = past.0 in absurd (omega (arith, le, f))
+  ]
+    where
+      by : (b : Bool) (x : Option (Op ℕ)) (y : Option ℕ) (o : Op ℕ) (q : ℕ) → x ≡ Some o → y ≡ Some q →
+          length (lines_of ops named places n) ≡ length (named_of ops named n) →
+          length (lines_of ops named places n ++ (if b then map line_at (one_or_none y) else []))
+          ≡ length (named_of ops named n ++ (if b then one_or_none x else []))
+      by true None y o q e f h = cc
+      by true (Some a) None o q e f h = cc
+      by true (Some a) (Some p) o q e f h =
+          length_push (lines_of ops named places n) (line_at p) ∙ ap (λ k. k + 1) h ∙ sym (length_push (named_of ops named n) a)
+      by false x y o q e f h = ap length (append-nil (lines_of ops named places n)) ∙ h ∙ sym
+          (ap length (append-nil (named_of ops named n)))
+
+  pub are_lines : AreLines (lines_of ops named places (length ops)) (named_of ops named (length ops))
+  are_lines = record {
+    long = lines_long (length ops) (omega arith);
+    above = λ i line e. let w = line_from (length ops) i line e in let is : line ≡ w.1 + 2 = w.4 in omega (arith, is);
+    apart = λ i j line ei ej. elim (cases_order i j) [
+      | inl same ↦ same
+      | inr (inl l) ↦ let bad : line < line = lines_rise (length ops) i j line line l ei ej in absurd (omega (arith, bad))
+      | inr (inr l) ↦ let bad : line < line = lines_rise (length ops) j i line line l ej ei in absurd (omega (arith, bad))
+    ];
+  }
+
+-- the write of the record of an operation at one of these places is one to be named
+write_named : (ops : List (Op ℕ)) (named : List ℕ) (p x : ℕ) (o a : Op ℕ) → list_any (λ q. nat_eq q p) named ≡ true →
+    slice_get ops p ≡ Some o → o.item ≡ Some x → a.item ≡ Some x → is_write a.kind ≡ true → writes_one_of ops named (Some a) ≡ true
+write_named ops named p x o a any e f g t =
+    by (is_write a.kind) (list_any (λ q. same_item a.item (slice_get ops q)) named) t (some named any)
+  where
+    by : (b c : Bool) → b ≡ true → c ≡ true → (b && c) ≡ true
+    by true c t h = h
+    by false c t h = cc
+
+    is_it : (q : ℕ) → nat_eq q p ≡ true → q ≡ p
+    is_it q t = grind (arith, nat_tests)
+
+    itself : (n : ℕ) → nat_eq n n ≡ true
+    itself n = grind (arith, nat_tests)
+
+    same : (q : ℕ) → nat_eq q p ≡ true → same_item a.item (slice_get ops q) ≡ true
+    same q t = ap (λ z. same_item z (slice_get ops q)) g ∙ ap (same_item (Some x)) (ap (slice_get ops) (is_it q t) ∙ e)
+        ∙ ap (is_item x) f ∙ itself x
+
+    or_cases : (b c d e : Bool) → (b ≡ true → d ≡ true) → (c ≡ true → e ≡ true) → (b || c) ≡ true → (d || e) ≡ true
+    or_cases true c true e f g h = refl
+    or_cases true c false e f g h = absurd (let t : false ≡ true = f refl in cc)
+    or_cases false c true e f g h = refl
+    or_cases false c false e f g h = g h
+
+    some : (ks : List ℕ) → list_any (λ q. nat_eq q p) ks ≡ true → list_any (λ q. same_item a.item (slice_get ops q)) ks ≡ true
+    some [] h = cc
+    some (k ∷ ks) h = or_cases (nat_eq k p) (list_any (λ q. nat_eq q p) ks) (same_item a.item (slice_get ops k))
+        (list_any (λ q. same_item a.item (slice_get ops q)) ks) (same k) (some ks) h
+
 -- a number is one of these, if it stands among them
 here : (k : ℕ) (xs ys : List ℕ) → list_any (λ q. nat_eq q k) (xs ++ k ∷ ys) ≡ true
 here k [] ys = first (nat_eq k k) (list_any (λ q. nat_eq q k) ys) (itself k)
@@ -125,6 +238,13 @@ here k (x ∷ xs) ys = later (nat_eq x k) (list_any (λ q. nat_eq q k) (xs ++ k 
     later : (a b : Bool) → b ≡ true → (a || b) ≡ true
     later true b t = refl
     later false b t = t
+
+at_least_1 : (reason : Reason) → 1 ≤ rule_of reason
+at_least_1 (Unwritten read) = omega arith
+at_least_1 (Early read write) = omega arith
+at_least_1 (Stale before read) = omega arith
+at_least_1 (Crossed a b c d) = omega arith
+at_least_1 (Limit refused) = omega arith
 
 module _ (limit : ℕ) (log : List (Op ℕ)) (thinned : Thinned) (is : IsThinnedLog limit log thinned) where
   known : IsSearched Equal 0 log
@@ -269,18 +389,206 @@ module _ (limit : ℕ) (log : List (Op ℕ)) (thinned : Thinned) (is : IsThinned
       )
   by_same_rule (Limit refused) r w l = absurd (omega (arith, l))
 
-  -- so no order of it is lawful
-  pub none_lawful : (reason : Reason) → IsReason Equal 0 limit log reason → NamesKept thinned.places reason → rule_of reason < 5 →
-      (order : List ℕ) → ¬ IsVerdict Equal 0 (one_term limit) (small_ops thinned reason) order Lawful
-  none_lawful reason r w l order verdict =
+  -- the write of the record of one of its operations is in the small log
+  sourced : (reason : Reason) (i p : ℕ) (o a : Op ℕ) → slice_get (small_ops thinned reason) i ≡ Some o → slice_get log p ≡ Some a →
+      is_write a.kind ≡ true → OfOneRecord Equal o a →
+      (w : ℕ) × (b : Op ℕ) × (slice_get (small_ops thinned reason) w ≡ Some b) × (is_write b.kind ≡ true) × OfOneRecord Equal o b
+  sourced reason i p o a e at t one =
+      let ops = thinned.history.ops in
+      let named = places_of (in_kept thinned.places reason) in
+      let w = from ops named (length ops) i o e in
+      let s = shares Equal o a one in
+      let same : s.x ≡ s.y = s.same in
+      by w.0 s.x (list_any (λ q. nat_eq q w.0) named) refl w.2 s.has_x (s.has_y ∙ ap Some (sym same))
+      (subst (λ z. (list_any (λ q. nat_eq q w.0) named || writes_one_of ops named z) ≡ true) w.2 w.3)
+    where
+      or_true : (b c : Bool) → c ≡ true → (b || c) ≡ true
+      or_true true c t = refl
+      or_true false c t = t
+
+      and_true : (b c : Bool) → (b && c) ≡ true → b ≡ true
+      and_true true c t = refl
+      and_true false c t = cc
+
+      by : (k x : ℕ) (b : Bool) → list_any (λ q. nat_eq q k) (places_of (in_kept thinned.places reason)) ≡ b →
+          slice_get thinned.history.ops k ≡ Some o → o.item ≡ Some x → a.item ≡ Some x →
+          (b || writes_one_of thinned.history.ops (places_of (in_kept thinned.places reason)) (Some o)) ≡ true →
+          (w : ℕ) × (b : Op ℕ) × (slice_get (small_ops thinned reason) w ≡ Some b) × (is_write b.kind ≡ true) × OfOneRecord Equal o b
+      by k x true any ek has_o has_a h =
+          let ops = thinned.history.ops in
+          let named = places_of (in_kept thinned.places reason) in
+          let v = write_kept log ops thinned.places is.kept known p a at t in
+          let yes : writes_one_of ops named (slice_get ops v.0) ≡ true =
+          ap (writes_one_of ops named) v.2 ∙ write_named ops named k x o a any ek has_o has_a t in
+          let j = has ops named (length ops) v.0 a (slice_get_within ops v.0 a v.2)
+          (or_true (list_any (λ q. nat_eq q v.0) named) (writes_one_of ops named (slice_get ops v.0)) yes) v.2 in
+          (j.0, a, j.1, t, one)
+      by k x false any ek has_o has_a h =
+          (i, o, e, and_true (is_write o.kind) _ h, of_one Equal o o x x has_o has_o refl)
+
+  -- a reason of the small log is one of the whole
+  pub unwritten_of_log : (reason : Reason) (p : ℕ) → IsUnwritten Equal 0 (small_ops thinned reason) p → (q : ℕ) × IsUnwritten Equal 0 log q
+  unwritten_of_log reason p r =
+      let v = of_log reason p r.op r.at in (
+        v.0,
+        record {
+          op = r.op;
+          at = v.1;
+          finished = r.finished;
+          opened = r.opened;
+          written = λ w a e t one. let s = sourced reason p w r.op a r.at e t one in r.written s.0 s.1 s.2 s.3 s.4;
+        },
+      )
+
+  pub reason_of_log : (reason other : Reason) → IsReason Equal 0 limit (small_ops thinned reason) other → rule_of other < 5 →
+      (more : Reason) × (rule_of more ≡ rule_of other) × IsReason Equal 0 limit log more
+  reason_of_log reason (Unwritten read) r l = let w = unwritten_of_log reason read r in (Unwritten w.0, refl, w.1)
+  reason_of_log reason (Early read write) r l =
+      let v = of_log reason read r.op r.at in
+      let w = of_log reason write r.source r.source_at in (
+        Early v.0 w.0,
+        refl,
+        record {
+          op = r.op;
+          source = r.source;
+          at = v.1;
+          source_at = w.1;
+          answers = r.answers;
+          writes = r.writes;
+          one = r.one;
+          precedes = r.precedes;
+        },
+      )
+  reason_of_log reason (Stale earlier read) r l =
+      let v = of_log reason earlier r.other r.other_at in
+      let w = of_log reason read r.op r.at in (
+        Stale v.0 w.0,
+        refl,
+        record {
+          other = r.other;
+          op = r.op;
+          other_at = v.1;
+          at = w.1;
+          finished = r.finished;
+          opened = r.opened;
+          another = r.another;
+          precedes = r.precedes;
+        },
+      )
+  reason_of_log reason (Crossed a b c d) r l =
+      let va = of_log reason a r.op_a r.at_a in
+      let vb = of_log reason b r.op_b r.at_b in
+      let vc = of_log reason c r.op_c r.at_c in
+      let vd = of_log reason d r.op_d r.at_d in (
+        Crossed va.0 vb.0 vc.0 vd.0,
+        refl,
+        record {
+          op_a = r.op_a;
+          op_b = r.op_b;
+          op_c = r.op_c;
+          op_d = r.op_d;
+          at_a = va.1;
+          at_b = vb.1;
+          at_c = vc.1;
+          at_d = vd.1;
+          counts_b = r.counts_b;
+          counts_d = r.counts_d;
+          first = r.first;
+          second = r.second;
+          one = r.one;
+          other = r.other;
+          apart = r.apart;
+          one_opened = r.one_opened;
+          other_opened = r.other_opened;
+        },
+      )
+  reason_of_log reason (Limit refused) r l = absurd (omega (arith, l))
+
+  -- ---- the small log as it is told by lines
+
+  pub own_lines : (reason : Reason) → AreLines (small_lines thinned reason) (small_ops thinned reason)
+  own_lines reason = are_lines thinned.history.ops (places_of (in_kept thinned.places reason)) thinned.places is.kept.long is.kept.rise
+
+  -- a reason of it
+  reason_told : (reason : Reason) (lines : List ℕ) → AreLines lines (small_ops thinned reason) → IsReason Equal 0 limit log reason →
+      NamesKept thinned.places reason → rule_of reason < 5 →
+      ((again : Reason) × (rule_of again ≡ rule_of reason) × IsReason Equal 0 limit (told_ops lines (small_ops thinned reason)) again)
+      ⊎ ((p : ℕ) × IsUnwritten Equal 0 (small_ops thinned reason) p)
+  reason_told reason lines are r w l =
       let again = by_same_rule reason r w l in
       let e : rule_of again.0 ≡ rule_of reason = again.1 in
-      excluded again.0 (omega (arith, e, l)) again.2
+      elim (reason_on lines (small_ops thinned reason) are limit again.0 again.2 (omega (arith, e, l))) [
+        | inl r ↦ inl (again.0, e, r)
+        | inr unwritten ↦ inr unwritten
+      ]
+
+  -- no order of it is lawful
+  pub none_lawful : (reason : Reason) (lines : List ℕ) → AreLines lines (small_ops thinned reason) → IsReason Equal 0 limit log reason →
+      NamesKept thinned.places reason → rule_of reason < 5 →
+      (order : List ℕ) → ¬ IsVerdict Equal 0 (one_term limit) (told_ops lines (small_ops thinned reason)) order Lawful
+  none_lawful reason lines are r w l order verdict = elim (reason_told reason lines are r w l) [
+    | inl again ↦ let e : rule_of again.0 ≡ rule_of reason = again.1 in excluded again.0 (omega (arith, e, l)) again.2
+    | inr unwritten ↦ no_unwritten Equal 0 (told_ops lines (small_ops thinned reason)) order known_told verdict.0 unwritten.0
+        (unwritten_on lines (small_ops thinned reason) are unwritten.0 unwritten.1)
+  ]
     where
-      excluded : (other : Reason) → rule_of other < 5 → IsReason Equal 0 limit (small_ops thinned reason) other → ⊥
-      excluded (Unwritten a) m h = no_unwritten Equal 0 (small_ops thinned reason) order (small_known reason) verdict.0 a h
-      excluded (Early a b) m h = no_early Equal 0 (small_ops thinned reason) order (small_known reason) verdict.0 a b h
-      excluded (Stale a b) m h = no_stale Equal 0 (small_ops thinned reason) order (small_known reason) verdict.0 a b h
+      known_told : IsSearched Equal 0 (told_ops lines (small_ops thinned reason))
+      known_told = told_known lines (small_ops thinned reason) are (small_known reason)
+
+      excluded : (other : Reason) → rule_of other < 5 → IsReason Equal 0 limit (told_ops lines (small_ops thinned reason)) other → ⊥
+      excluded (Unwritten a) m h = no_unwritten Equal 0 (told_ops lines (small_ops thinned reason)) order known_told verdict.0 a h
+      excluded (Early a b) m h = no_early Equal 0 (told_ops lines (small_ops thinned reason)) order known_told verdict.0 a b h
+      excluded (Stale a b) m h = no_stale Equal 0 (told_ops lines (small_ops thinned reason)) order known_told verdict.0 a b h
       excluded (Crossed a b c d) m h =
-          no_crossing Equal 0 (small_ops thinned reason) order (small_known reason) verdict.0 a b c d h
+          no_crossing Equal 0 (told_ops lines (small_ops thinned reason)) order known_told verdict.0 a b c d h
       excluded (Limit a) m h = absurd (omega (arith, m))
+
+  -- where the log has no reason of an earlier rule, it has none either
+  first_told : (reason : Reason) (lines : List ℕ) → AreLines lines (small_ops thinned reason) →
+      ((other : Reason) → IsReason Equal 0 limit log other → rule_of reason ≤ rule_of other) → rule_of reason < 5 →
+      (other : Reason) → IsReason Equal 0 limit (told_ops lines (small_ops thinned reason)) other → rule_of reason ≤ rule_of other
+  first_told reason lines are first l other r = elim (cases_lt (rule_of other) 5) [
+    | inr ge ↦ omega (arith, l, ge)
+    | inl less ↦ elim (reason_back lines (small_ops thinned reason) are limit other r less) [
+      | inl back ↦
+          let w = reason_of_log reason other back less in
+          let e : rule_of w.0 ≡ rule_of other = w.1 in
+          let le : rule_of reason ≤ rule_of w.0 = first w.0 w.2 in
+          omega (arith, e, le)
+      | inr unwritten ↦
+          let w = unwritten_of_log reason unwritten.0 unwritten.1 in
+          let le : rule_of reason ≤ 1 = first (Unwritten w.0) w.1 in
+          let ge : 1 ≤ rule_of other = at_least_1 other in
+          omega (arith, le, ge)
+    ]
+  ]
+
+  -- it is unlawful by the same rule
+  pub unlawful_told : (reason : Reason) (lines : List ℕ) → AreLines lines (small_ops thinned reason) →
+      IsUnlawful Equal 0 limit (one_term limit) log reason → NamesKept thinned.places reason → rule_of reason < 5 →
+      (again : Reason) × (rule_of again ≡ rule_of reason)
+      × IsUnlawful Equal 0 limit (one_term limit) (told_ops lines (small_ops thinned reason)) again
+  unlawful_told reason lines are unlawful w l = elim (reason_told reason lines are unlawful.is w l) [
+    | inl again ↦ as_told again.0 again.1 again.2
+    | inr unwritten ↦
+        let v = unwritten_of_log reason unwritten.0 unwritten.1 in
+        let le : rule_of reason ≤ 1 = unlawful.first (Unwritten v.0) v.1 in
+        let ge : 1 ≤ rule_of reason = at_least_1 reason in
+        as_told (Unwritten unwritten.0) (let e : 1 ≡ rule_of reason = omega (arith, le, ge) in e)
+        (unwritten_on lines (small_ops thinned reason) are unwritten.0 unwritten.1)
+  ]
+    where
+      as_told : (again : Reason) → rule_of again ≡ rule_of reason →
+          IsReason Equal 0 limit (told_ops lines (small_ops thinned reason)) again →
+          (again : Reason) × (rule_of again ≡ rule_of reason)
+          × IsUnlawful Equal 0 limit (one_term limit) (told_ops lines (small_ops thinned reason)) again
+      as_told again e r = (
+        again,
+        e,
+        record {
+          none = none_lawful reason lines are unlawful.is w l;
+          is = r;
+          first = λ other h. let le : rule_of reason ≤ rule_of other = first_told reason lines are unlawful.first l other h in
+              omega (arith, e, le);
+        },
+      )

@@ -3,6 +3,7 @@
 ghost use Rattle.std.specs.Prelude.{◌≡◌, ◌≢◌, ◌<◌, ◌≤◌, ◌↔◌, ℕ, List, [], Result, false, true};
 ghost use Rattle.history_core.specs.Orders.{IsVerdict, KeepsPrecedence};
 ghost use Rattle.history_core.specs.Reasons.{IsReason, rule_of};
+ghost use Rattle.history_core.specs.Searches.{IsUnlawful};
 ghost use Rattle.history_core.specs.declared.history.Op.{Op};
 ghost use Rattle.history_core.specs.declared.history.Verdict.TheVariants.{Lawful};
 ghost use Rattle.history_core.specs.declared.reason.Reason.{Reason};
@@ -17,7 +18,7 @@ ghost use Rattle.program_runs.specs.declared.fault.Answer.{Answer};
 ghost use Rattle.program_runs.specs.declared.fault.Fault.{Fault};
 ghost use Rattle.program_runs.specs.declared.show.Show.{Show};
 ghost use Rattle.read_document.specs.Kinds.{are_lines};
-ghost use Rattle.small_log.specs.Small.{small_ops};
+ghost use Rattle.small_log.specs.Small.{small_lines, small_ops, told_ops};
 ghost use Rattle.fsr_log_answers.specs.Logs.{IsLogAnswer};
 ghost use Rattle.fsr_once_answers.specs.ByKeys.{IsAnswerByKeys, IsAnswerIfSmall};
 ghost use Rattle.fsr_once_answers.specs.LinesAnswers.{status_of};
@@ -53,14 +54,19 @@ pub fn strict_by_words()
     ensures unasked { (read : LinesLog) (found : LogAnswer) → status_of false read found ≤ 1 }
 {}
 
-/// The small log of a log that is unlawful for another reason than its limit is unlawful by the same rule.
+/// The small log of a log that is unlawful for another reason than its limit, as it is printed, is unlawful by the same
+/// rule: the first that any reason has.
 pub fn small_is_unlawful()
     ensures rule { (limit : ℕ) (log : List (Op ℕ)) (thinned : Thinned) (reason : Reason) →
-        IsThinnedLog limit log thinned → IsReason Equal 0 limit log reason → NamesKept thinned.places reason → rule_of reason < 5 →
-        (again : Reason) × (rule_of again ≡ rule_of reason) × IsReason Equal 0 limit (small_ops thinned reason) again }
+        IsThinnedLog limit log thinned → IsUnlawful Equal 0 limit (one_term limit) log reason →
+        NamesKept thinned.places reason → rule_of reason < 5 →
+        (again : Reason) × (rule_of again ≡ rule_of reason) × IsUnlawful Equal 0 limit (one_term limit)
+        (told_ops (small_lines thinned reason) (small_ops thinned reason)) again }
     ensures none { (limit : ℕ) (log : List (Op ℕ)) (thinned : Thinned) (reason : Reason) →
-        IsThinnedLog limit log thinned → IsReason Equal 0 limit log reason → NamesKept thinned.places reason → rule_of reason < 5 →
-        (order : List ℕ) → ¬ IsVerdict Equal 0 (one_term limit) (small_ops thinned reason) order Lawful }
+        IsThinnedLog limit log thinned → IsReason Equal 0 limit log reason →
+        NamesKept thinned.places reason → rule_of reason < 5 →
+        (order : List ℕ) → ¬ IsVerdict Equal 0 (one_term limit)
+        (told_ops (small_lines thinned reason) (small_ops thinned reason)) order Lawful }
 {}
 
 /// The answer to a log in lines whose records don't repeat, by itself, is an answer of the command; so is its refusal
