@@ -1,6 +1,6 @@
 # `fsr watch` over real pipes: what is told as soon as its line has come, while the pipe stays open, and of a file that grows; floors and
-# late lines; faults, a budget, no memory, streams that fail; and random logs against a plain reference that was written from the definitions
-# alone (tests/programs/reference/watches.py). The expected texts follow from docs/FORMATS.md.
+# late lines; what many records take; faults, a budget, no memory, streams that fail; and random logs against a plain reference that was
+# written from the definitions alone (tests/programs/reference/watches.py). The expected texts follow from docs/FORMATS.md.
 
 . tests/programs/refused.sh
 
@@ -132,6 +132,53 @@ watches "a floor of another shape" 3 'fsr: line 2: shape of begin' "$(log "$head
 watches "too few operations" 3 'fsr: line 3: law of ops' "$(log "$header" "$write_5" '{"kind":"done","ops":2}')"
 watches "too many configurations" 7 'fsr: line 4: too many configurations' "$(log "$header" '{"who":0,"kind":"maybe","begin":1,"end":3,"record":5}' \
     '{"who":1,"kind":"maybe","begin":1,"end":3,"record":6}' '{"kind":"floor","begin":4}')" --budget 1
+
+# Sixteen thousand writes, one after the other, each of a record of its own of 64 words, 21 MB together; and behind each tenth a floor,
+# if the word is `floors`.
+#   many_records WORD
+many_records() {
+    awk -v floors="$1" 'BEGIN {
+        print "{\"kind\":\"lines\",\"opening\":0}"
+        for (i = 1; i < 64; i++) behind = behind ",1844674407370955161" i % 6
+        for (n = 1; n <= 16000; n++) {
+            print "{\"who\":0,\"kind\":\"write\",\"begin\":" 2 * n ",\"end\":" 2 * n + 1 ",\"record\":[" n behind "]}"
+            if (floors == "floors" && n % 10 == 0) print "{\"kind\":\"floor\",\"begin\":" 2 * n + 2 "}"
+        }
+    }'
+}
+
+# Sees that a watch of these has taken at most 8 MB of memory when all have come.
+#   stays_small WORD
+stays_small() {
+    title="memory for many records, with $1"
+    if ! has_program fsr; then
+        fail "$title" "fsr wasn't built"
+        return
+    fi
+    rm -f "$room/pipe" "$room/out" "$room/err" && mkfifo "$room/pipe" || return
+    "$built/fsr/out/fsr" watch <"$room/pipe" >"$room/out" 2>"$room/err" &
+    watcher=$!
+    exec 9>"$room/pipe"
+    many_records "$1" 2>/dev/null >&9
+    peak=$(sed -n 's/^VmHWM:[^0-9]*\([0-9]*\) kB$/\1/p' "/proc/$watcher/status" 2>/dev/null)
+    [ "${peak:-8193}" -le 8192 ] || kill "$watcher" 2>/dev/null
+    exec 9>&-
+    wait "$watcher" 2>/dev/null
+    status=$?
+    if [ -z "$peak" ]; then
+        fail "$title" "it ended before its input, with status $status: $(head -c 200 "$room/out" "$room/err" | tr '\n' ' ')"
+    elif [ "$peak" -gt 8192 ]; then
+        fail "$title" "it took $peak KB"
+    elif [ "$status" != 0 ] || [ "$(cat "$room/out")" != 'lawful
+16000 operations, 0 unfinished, 0 uncertain, 1600 floors; no last line `done`' ]; then
+        fail "$title" "status $status: $(head -c 200 "$room/out" "$room/err" | tr '\n' ' ')"
+    else
+        pass "$title"
+    fi
+}
+
+stays_small floors
+! has_program fsr || catches "no floor, at which a record could be forgotten" "it took " stays_small nothing
 
 # A file that grows, read by `tail -f`.
 grows() {
