@@ -46,7 +46,7 @@ module _ {S W : Type 0} where
   abbrev pub IsOfOne : List (Remainder S W) → Operation W → Type 0
   IsOfOne held o = (i : ℕ) × (one : Remainder S W) × (slice_get held i ≡ Some one) × IsOneOfLog one.rest.items o
 
-  -- an operation was added to each of these, or to none
+  -- no other state is held than before, at its place, and of operations at most this one came
   pub record AreHeldWith (op : Operation W) (old new : List (Remainder S W)) : Type 0 where
     pub states : (i : ℕ) (one : Remainder S W) → slice_get new i ≡ Some one →
         (other : Remainder S W) × (slice_get old i ≡ Some other) × (one.state ≡ other.state)
