@@ -106,9 +106,10 @@ pub last_goes_on : (s : Option LinesSeen) (bytes : List ℕ) (w : Watcher) (repl
 last_goes_on s [] w reply some takes ends = absurd (some refl)
 last_goes_on s (b ∷ bs) w reply some takes ends = last_goes s b bs w reply takes ends
 
-pub last_stops : (s : Option LinesSeen) (b : ℕ) (bs : List ℕ) (reply : Result Told WatchFault) → TakesLine s (b ∷ bs) (Stops reply) →
-    IsLastTold s (b ∷ bs) reply
-last_stops s b bs reply takes =
+pub last_stops : (s : Option LinesSeen) (bytes : List ℕ) (reply : Result Told WatchFault) → bytes ≢ [] → TakesLine s bytes (Stops reply) →
+    IsLastTold s bytes reply
+last_stops s [] reply some takes = absurd (some refl)
+last_stops s (b ∷ bs) reply some takes =
     let Q : Result Told WatchFault → Type 0 = λ r. IsToldFrom s (last_lines (b ∷ bs)) r in
     tells_so (λ r. ComesTo s (b ∷ bs) (stops r)) Q (λ r comes. inl (inl comes)) reply takes
 

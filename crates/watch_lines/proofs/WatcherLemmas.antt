@@ -6,6 +6,7 @@ use Rattle.std.proofs.Common.{string_bytes}
 use Rattle.std.specs.Prelude.{count_by, is_none, is_some, nat_lt}
 use Rattle.std.proofs.lemmas.Bool.Decides.{nat_tests}
 use Rattle.std.proofs.lemmas.List.{map-append}
+use Rattle.std.proofs.lemmas.Option.{none-some}
 use Rattle.std.proofs.lemmas.List.Sums.{sum_by-append, sum_by-cons}
 use Rattle.object_core.specs.declared.operation.Operation.{Operation}
 use Rattle.object_registers.specs.declared.exchanging.Exchange.{Exchange}
@@ -17,6 +18,7 @@ use Rattle.object_watch.specs.declared.watch.Risen.TheVariants.{Open, Lost as Lo
 use Rattle.object_watch.specs.declared.watch.Watch.{Watch}
 use Rattle.object_watch.specs.Remainders.{AreHeldWith, AreLedTo}
 use Rattle.program_runs.specs.declared.fault.Fault.TheVariants.{Undecided}
+use Rattle.read_document.specs.declared.refusal.DocError.{DocError}
 use Rattle.read_exchange.specs.Exchanges.{exchange_seen, keyed_seen, KeyedExchange, operation}
 use Rattle.read_exchange.specs.declared.line.ExchangeOp.{ExchangeOp}
 use Rattle.exchanges_log.specs.ExchangeLogs.{is_uncertain, uncertain_in, unfinished_in}
@@ -28,8 +30,8 @@ use Rattle.watch_lines.specs.Seen.{opened_with}
 use Rattle.watch_lines.specs.Seen.{LinesSeen}
 use Rattle.watch_lines.specs.Seen.{with_floor}
 use Rattle.watch_lines.specs.Steps.{EndsAs, IsLawfulTo, opened}
-use Rattle.watch_lines.specs.WatchEntries.{floor, said, watch_entry_of}
-use Rattle.watch_lines.specs.Watchers.{IsRisenBefore, Knows, KnowsIf, KnowsLess, RisesNow, TakesEntry, TakesLine, TakesOperation}
+use Rattle.watch_lines.specs.WatchEntries.{blank, floor, said, watch_entry_of, WatchEntry}
+use Rattle.watch_lines.specs.Watchers.{ForgetsAt, IsRisenBefore, Knows, KnowsIf, KnowsLess, RisesNow, TakesEntry, TakesLine, TakesOperation}
 use Rattle.watch_lines.specs.inner.CountsOne.{CountsOne}
 use Rattle.watch_lines.proofs.NamingLemmas.{more_by, of_led, of_with, renamed, told_between, told_beyond, told_lawful, told_lost}
 use Rattle.watch_lines.proofs.NamingLemmas.{told_unlawful}
@@ -241,6 +243,22 @@ below_high (Some f) at line = by_test (nat_lt f.at at) refl
     by_test : (b : Bool) → nat_lt f.at at ≡ b → f.at ≤ moment_of (higher (Some f) at line)
     by_test true e = rw e (let less : f.at < at = grind (arith, nat_tests) in omega (arith, less))
     by_test false e = rw e (omega arith)
+
+-- one behind the end doesn't rise
+pub forgets_ended : (w : Watcher) (end : ℕ) (entry : Result WatchEntry DocError) (step : Step) → w.ended ≡ Some end → ForgetsAt w entry step
+forgets_ended w end (Ok (floor at)) step is = λ before later. absurd (none-some end (sym before ∙ is))
+forgets_ended w end (Ok (said entry)) step is = tt
+forgets_ended w end (Ok blank) step is = tt
+forgets_ended w end (Err why) step is = tt
+
+-- a floor is higher than those before if its moment is later
+pub higher_at : (high : Option Floor) (at line : ℕ) → moment_of high < at → moment_of (higher high at line) ≡ at
+higher_at None at line later = refl
+higher_at (Some f) at line later = by_test (nat_lt f.at at) refl
+  where
+    by_test : (b : Bool) → nat_lt f.at at ≡ b → moment_of (higher (Some f) at line) ≡ at
+    by_test true e = rw e refl
+    by_test false e = (let le : at ≤ f.at = grind (arith, nat_tests) in absurd (omega (arith, later, le)))
 
 -- ---- an operation
 

@@ -1,5 +1,6 @@
 -- What a watcher knows of the lines that it has read (this project's own).
-use Rattle.std.specs.Prelude.{◌≡◌, ℕ, ◌<◌, List, option_map, Option, None, Some, Result, Err, string_bytes}
+use Rattle.std.specs.Prelude.{◌≡◌, ◌⊎◌, ℕ, ◌<◌, ◌≤◌, List, option_map, Option, None, Some, Result, Ok, Err, string_bytes}
+use Rattle.std.specs.BTreeMap.{btree_map_len}
 use Rattle.object_core.specs.declared.operation.Operation.{Operation}
 use Rattle.object_watch.specs.Watches.{AreTooManyAt, IsLawfulBetween, IsFirstLost, IsWatchOf}
 use Rattle.object_watch.specs.declared.watch.Watch.{Watch}
@@ -14,7 +15,7 @@ use Rattle.watch_lines.specs.Namings.{AreKeptNumbers, log_by, Naming}
 use Rattle.watch_lines.specs.Replies.{TellsIf}
 use Rattle.watch_lines.specs.Seen.{counts_of, HasOperation, moment_of, LinesSeen}
 use Rattle.watch_lines.specs.Steps.{ComesTo, goes_on, IsLawfulTo, IsStep, opened, RisesTo, stops}
-use Rattle.watch_lines.specs.WatchEntries.{WatchEntry}
+use Rattle.watch_lines.specs.WatchEntries.{blank, floor, said, WatchEntry}
 use Rattle.watch_lines.specs.declared.lined.Lined.{Lined}
 use Rattle.watch_lines.specs.declared.lined.LinedRegister.{LinedRegister}
 use Rattle.watch_lines.specs.declared.told.Floor.{Floor}
@@ -69,7 +70,7 @@ IsRisenBefore log from to (Open watch) =
 IsRisenBefore log from to (Lost at op) = (at < to) × IsFirstLost lined_after opened log from at op
 IsRisenBefore log from to (TooMany at) = (at < to) × AreTooManyAt lined_after opened log from at
 
--- the records that nothing held names are forgotten, unless memory ran out
+-- it knows the same, unless memory ran out
 abbrev pub KnowsLess : LinesSeen → Step → Type 0
 KnowsLess s (GoesOn w) = Knows s w
 KnowsLess s (Stops reply) = reply ≡ Err (Refused NoMemory)
@@ -79,3 +80,21 @@ abbrev pub RisesNow : LinesSeen → Option Floor → Step → Type 0
 RisesNow s high (GoesOn w) =
     Knows (record s { high = high }) w × IsLawfulTo s.log (moment_of s.high) (moment_of high)
 RisesNow s high (Stops reply) = TellsIf (RisesTo s.log (moment_of s.high) (moment_of high) s.lines) reply
+
+-- ---- what is forgotten
+
+-- no record is kept but the opening and those that are held
+abbrev pub KeepsHeld : Watcher → Type 0
+KeepsHeld w = (n : ℕ) → IsKeptNumber w.records n → (n ≡ 0) ⊎ IsHeldRecord w.watch.held.items n
+
+-- if many records were kept, all others are forgotten
+abbrev pub ForgetsFrom : Records → Step → Type 0
+ForgetsFrom old (GoesOn w) = old.most ≤ btree_map_len old.numbers → KeepsHeld w
+ForgetsFrom old (Stops reply) = Unit {0}
+
+-- so it is at each higher floor
+abbrev pub ForgetsAt : Watcher → Result WatchEntry DocError → Step → Type 0
+ForgetsAt old (Ok (floor at)) step = old.ended ≡ None → moment_of old.high < at → ForgetsFrom old.records step
+ForgetsAt old (Ok (said entry)) step = Unit {0}
+ForgetsAt old (Ok blank) step = Unit {0}
+ForgetsAt old (Err why) step = Unit {0}

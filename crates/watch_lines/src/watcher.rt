@@ -15,8 +15,8 @@ ghost use Rattle.watch_lines.specs.Steps.{EndsAs, IsLastAnswer, opened};
 ghost use Rattle.watch_lines.specs.WatchEntries.{floor, IsForward, RunsForwards, said, watch_entry_of, watched_seen};
 ghost use Rattle.watch_lines.specs.WatchEntries.{WatchEntry};
 ghost use Rattle.watch_lines.specs.declared.lined.Lined.{Lined};
-ghost use Rattle.watch_lines.specs.Watchers.{IsRisenBefore, Knows, KnowsIf, KnowsLess, RisesNow, TakesEntry};
-ghost use Rattle.watch_lines.specs.Watchers.{TakesLine, TakesOperation};
+ghost use Rattle.watch_lines.specs.Watchers.{ForgetsAt, ForgetsFrom, IsRisenBefore, Knows, KnowsIf, KnowsLess};
+ghost use Rattle.watch_lines.specs.Watchers.{RisesNow, TakesEntry, TakesLine, TakesOperation};
 
 use crate::line::{WatchLine, read_watched};
 use crate::lined::{Lined, LinedRegister};
@@ -83,7 +83,8 @@ impl Watcher {
     /// What the next line comes to.
     fn step(self, alloc: Global, budget: usize, bytes: &[u8]) -> Step
         requires { (s : LinesSeen) × Knows s self }
-        ensures { (s : LinesSeen) → Knows s self → TakesEntry s (watch_entry_of bytes.now) result }
+        ensures takes { (s : LinesSeen) → Knows s self → TakesEntry s (watch_entry_of bytes.now) result }
+        ensures forgets { ForgetsAt self (watch_entry_of bytes.now) result }
     {
         let Some(line) = self.lines.checked_add(1) else {
             return Step::Stops(Err(NO_MEMORY));
@@ -125,8 +126,9 @@ impl Watcher {
     fn enter(self, alloc: Global, budget: usize, line: usize, read: WatchLine) -> Step
         requires known { (s : LinesSeen) × Knows s self }
         requires forwards { RunsForwards read }
-        ensures { (s : LinesSeen) → Knows s self → s.ended ≡ None → line ≡ s.lines + 1 →
+        ensures takes { (s : LinesSeen) → Knows s self → s.ended ≡ None → line ≡ s.lines + 1 →
             TakesEntry s (Ok (watched_seen read)) result }
+        ensures forgets { ForgetsAt self (Ok (watched_seen read)) result }
     {
         match read {
             WatchLine::Blank => Step::GoesOn(self.at_line(line)),
@@ -213,8 +215,9 @@ impl Watcher {
     /// A floor.
     fn rise_to(self, alloc: Global, budget: usize, line: usize, at: u64) -> Step
         requires { (s : LinesSeen) × Knows s self }
-        ensures { (s : LinesSeen) → Knows s self → s.ended ≡ None → line ≡ s.lines + 1 →
+        ensures takes { (s : LinesSeen) → Knows s self → s.ended ≡ None → line ≡ s.lines + 1 →
             TakesEntry s (Ok (floor at)) result }
+        ensures forgets { moment_of self.high < at → ForgetsFrom self.records result }
     {
         let Some(floors) = self.counts.floors.checked_add(1) else {
             return Step::Stops(Err(NO_MEMORY));
@@ -234,7 +237,8 @@ impl Watcher {
     fn rise(self, alloc: Global, budget: usize, high: Option<Floor>) -> Step
         requires known { (s : LinesSeen) × Knows s self }
         requires later { self.watch.moment < moment_of high }
-        ensures { (s : LinesSeen) → Knows s self → RisesNow s high result }
+        ensures rises { (s : LinesSeen) → Knows s self → RisesNow s high result }
+        ensures forgets { ForgetsFrom self.records result }
     {
         let line = self.lines;
         let Watcher {
@@ -268,9 +272,10 @@ impl Watcher {
         }
     }
 
-    /// Forgets the records that nothing held names.
+    /// Forgets the records that nothing held names, if many are kept.
     fn forget(self, alloc: Global) -> Step
-        ensures { (s : LinesSeen) → Knows s self → KnowsLess s result }
+        ensures knows { (s : LinesSeen) → Knows s self → KnowsLess s result }
+        ensures forgets { ForgetsFrom self.records result }
     {
         let mut watcher = self;
         match watcher.records.forget(alloc, watcher.watch.held.as_slice()) {
@@ -311,7 +316,8 @@ impl Watcher {
 /// What the next line comes to, behind those that were read, if any were: the first one is the header.
 pub fn watch_line(alloc: Global, budget: usize, read: Option<Watcher>, bytes: &[u8]) -> Step
     requires { (seen : Option LinesSeen) × KnowsIf seen read }
-    ensures { (seen : Option LinesSeen) → KnowsIf seen read → TakesLine seen bytes.now result }
+    ensures takes { (seen : Option LinesSeen) → KnowsIf seen read → TakesLine seen bytes.now result }
+    ensures forgets { IfSome read (λ old. ForgetsAt old (watch_entry_of bytes.now) result) }
 {
     match read {
         Some(watcher) => watcher.step(alloc, budget, bytes),
