@@ -1,5 +1,6 @@
 -- What a watcher knows of the lines that it has read (this project's own).
-use Rattle.std.specs.Prelude.{◌≡◌, ◌⊎◌, ℕ, ◌<◌, ◌≤◌, List, option_map, Option, None, Some, Result, Ok, Err, string_bytes}
+use Rattle.std.specs.Prelude.{◌≡◌, ◌⊎◌, ℕ, ◌<◌, ◌≤◌, List, option_map, Option, None, Some, Result, Ok, Err}
+use Rattle.std.specs.Prelude.{string_bytes}
 use Rattle.std.specs.BTreeMap.{btree_map_len}
 use Rattle.object_core.specs.declared.operation.Operation.{Operation}
 use Rattle.object_watch.specs.Watches.{AreTooManyAt, IsLawfulBetween, IsFirstLost, IsWatchOf}
