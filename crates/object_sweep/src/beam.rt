@@ -6,12 +6,12 @@ ghost use Rattle.object_sweep.specs.inner.Beams.{AreLeftOf, IsFirstMark, IsMarkO
 ghost use Rattle.object_sweep.specs.inner.Ends.{IsNarrowlyPassed};
 ghost use Rattle.object_sweep.specs.inner.Events.{AreEvents, events_at};
 
+use crate::at_hand::AtHand;
 use crate::event::Turn;
 use crate::front::{Front, Mark, copied_front, first_front};
 use crate::log_sweep::Verdict;
 use crate::narrow::{NARROW, Passed, pass_narrowly};
-use crate::places::{is_in, without};
-use crate::unfinished::{Alike, begin, is_unfinished};
+use crate::places::{is_in, remove};
 use object_core::{Object, Operation};
 use std::alloc::{AllocError, Global};
 
@@ -51,6 +51,8 @@ pub(crate) enum Narrow<O> {
 #[derive(Clone, Copy, Drop)]
 struct Beam {
     width: usize,
+    /// Whether what never ended is placed only where nothing is left without it.
+    sparing: bool,
     back: usize,
     until: usize,
 }
@@ -59,17 +61,27 @@ impl Beam {
     const fn narrow() -> Beam {
         Beam {
             width: NARROW,
+            sparing: true,
             back: 1,
             until: 0,
         }
     }
 
-    /// A wider one, until well behind this event.
-    const fn widened(self, done: usize) -> Beam {
+    /// One that finds more, until well behind this event.
+    const fn widened(self, done: usize, has_unfinished: bool) -> Beam {
+        let until = done.saturating_add(MARK_EVERY);
+        if self.sparing && has_unfinished {
+            return Beam {
+                sparing: false,
+                until,
+                ..self
+            };
+        }
         Beam {
             width: self.width.saturating_mul(GROWS_BY),
+            sparing: false,
             back: self.back.saturating_mul(GROWS_BY),
-            until: done.saturating_add(MARK_EVERY),
+            until,
         }
     }
 
@@ -83,13 +95,13 @@ impl Beam {
     }
 }
 
-/// The end of the operation at a place, behind which no more are held than this many.
+/// The end of the operation at a place, behind which no more are held than the beam is wide.
 fn end_narrowly<O: Object>(
     alloc: Global,
     log: &[Operation<O::What>],
     place: usize,
-    width: usize,
-    unfinished: &[Alike],
+    beam: Beam,
+    at_hand: &mut AtHand,
     front: &mut Front<O>,
 ) -> Result<Passing, AllocError>
     ensures { IfOk result (IsNarrowlyPassed true O.after log.now place front.old.whole front.old.under_way.items
@@ -103,10 +115,11 @@ fn end_narrowly<O: Object>(
         alloc,
         log,
         front.under_way.as_slice(),
-        unfinished,
+        &*at_hand,
+        beam.sparing,
         place,
         held,
-        width,
+        beam.width,
     )?;
     if kept.is_empty() {
         let lost = front.whole && whole;
@@ -116,7 +129,8 @@ fn end_narrowly<O: Object>(
             Passing::Nothing
         });
     }
-    front.under_way = without(alloc, place, front.under_way.as_slice())?;
+    remove(place, &mut front.under_way);
+    at_hand.end(place);
     front.configurations = kept;
     front.whole = front.whole && whole;
     Ok(Passing::On)
@@ -127,8 +141,8 @@ fn pass_event_narrowly<O: Object>(
     alloc: Global,
     log: &[Operation<O::What>],
     turn: &Turn,
-    width: usize,
-    unfinished: &mut Vec<Alike>,
+    beam: Beam,
+    at_hand: &mut AtHand,
     front: &mut Front<O>,
 ) -> Result<Passing, AllocError>
     ensures { IfOk result (IsNarrowlyPassed turn.now.ends O.after log.now turn.now.place front.old.whole
@@ -137,9 +151,9 @@ fn pass_event_narrowly<O: Object>(
 {
     let place = turn.place as usize;
     if turn.ends {
-        return end_narrowly(alloc, log, place, width, unfinished.as_slice(), front);
+        return end_narrowly(alloc, log, place, beam, at_hand, front);
     }
-    begin::<O>(alloc, log, place, unfinished)?;
+    at_hand.begin::<O>(alloc, log, place)?;
     front.under_way.push(place)?;
     Ok(Passing::On)
 }
@@ -211,16 +225,6 @@ const fn cost_of(held: usize) -> usize
     if square == 0 { 1 } else { square }
 }
 
-/// Whether so many operations are under way at once that few configurations won't do.
-fn is_crowded<W>(log: &[Operation<W>], under_way: &[usize]) -> bool {
-    under_way.len() > MOST_AT_ONCE
-        && under_way
-            .iter()
-            .filter(|place| !is_unfinished(log, **place))
-            .count()
-            > MOST_AT_ONCE
-}
-
 /// Sweeps with few configurations. Where nothing is left it goes back to a mark, and is wider for a while.
 pub(crate) fn sweep_narrowly<O: Object>(
     alloc: Global,
@@ -236,15 +240,15 @@ pub(crate) fn sweep_narrowly<O: Object>(
     let mut marks = Vec::new(alloc);
     let mut at = first_mark(alloc, opening)?;
     let mut beam = Beam::narrow();
-    let mut unfinished = Vec::new(alloc);
+    let mut at_hand = AtHand::new(alloc);
     let mut left = turns.len().saturating_mul(PASSES).saturating_add(SPARE);
     while at.done < turns.len() && left > 0 && beam.width <= budget.min(WIDEST) {
         let turn = &turns[at.done];
-        if turn.ends && is_crowded(log, at.front.under_way.as_slice()) {
+        if turn.ends && at_hand.with_end.len() > MOST_AT_ONCE {
             break;
         }
         left = left.saturating_sub(cost_of(at.front.configurations.len()));
-        match pass_event_narrowly(alloc, log, turn, beam.width, &mut unfinished, &mut at.front)? {
+        match pass_event_narrowly(alloc, log, turn, beam, &mut at_hand, &mut at.front)? {
             Passing::On => {
                 at.done += 1;
                 beam = beam.behind(at.done);
@@ -255,8 +259,9 @@ pub(crate) fn sweep_narrowly<O: Object>(
                 return Ok(Narrow::Known(Verdict::Unlawful { place }));
             }
             Passing::Nothing => {
-                beam = beam.widened(at.done);
+                beam = beam.widened(at.done, !at_hand.unfinished.is_empty());
                 at = go_back(alloc, opening, beam.back, &mut marks)?;
+                at_hand.go_back(log, at.front.under_way.as_slice())?;
             }
         }
     }

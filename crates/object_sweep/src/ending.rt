@@ -122,7 +122,7 @@ pub(crate) fn leave_out<O: Object>(
 }
 
 /// Whether an operation may have had no effect, and else leaves every state as it is. It need not be placed.
-fn is_idle<O: Object>(log: &[Operation<O::What>], place: usize) -> bool
+pub(crate) fn is_idle<O: Object>(log: &[Operation<O::What>], place: usize) -> bool
     ensures { IsTrue result → IsIdle O.after (slice_get log.now place) }
 {
     match log.get(place) {
@@ -188,7 +188,7 @@ fn is_sooner<O: Object>(
 }
 
 /// Which operation is placed for this one, if it isn't placed: of those that may be, one that ends first.
-pub(crate) fn first_for<O: Object>(
+fn first_for<O: Object>(
     log: &[Operation<O::What>],
     under_way: &[usize],
     placed: &[usize],
@@ -209,7 +209,11 @@ pub(crate) fn first_for<O: Object>(
 }
 
 /// Whether one of these may be placed for the operation at a place.
-fn is_stood_for<O: Object>(log: &[Operation<O::What>], tried: &[usize], place: usize) -> bool
+pub(crate) fn is_stood_for<O: Object>(
+    log: &[Operation<O::What>],
+    tried: &[usize],
+    place: usize,
+) -> bool
     ensures { IsTrue result → StandsOneFor O.after log.now tried.now place }
 {
     for one in tried {
@@ -221,7 +225,7 @@ fn is_stood_for<O: Object>(log: &[Operation<O::What>], tried: &[usize], place: u
 }
 
 /// Whether an operation has to be tried: it isn't placed, it isn't idle, and none that was tried may be placed for it.
-pub(crate) fn is_to_be_tried<O: Object>(
+fn is_to_be_tried<O: Object>(
     log: &[Operation<O::What>],
     placed: &[usize],
     tried: &[usize],
@@ -259,7 +263,7 @@ fn explore<O: Object>(
 }
 
 /// Whether an operation is sure to have taken effect, and leaves every state as it is.
-fn is_sure_and_pure<O: Object>(log: &[Operation<O::What>], place: usize) -> bool
+pub(crate) fn is_sure_and_pure<O: Object>(log: &[Operation<O::What>], place: usize) -> bool
     ensures { IsTrue result → IsSureAndPure O.after (slice_get log.now place) }
 {
     match log.get(place) {
@@ -269,7 +273,7 @@ fn is_sure_and_pure<O: Object>(log: &[Operation<O::What>], place: usize) -> bool
 }
 
 /// The first of those under way that is sure and pure and can be placed.
-pub(crate) fn pure_next<O: Object>(
+fn pure_next<O: Object>(
     log: &[Operation<O::What>],
     under_way: &[usize],
     from: &Configuration<O>,

@@ -96,6 +96,9 @@ fn is_covered<O: Object>(
 ) -> bool
     ensures { IsTrue result ↔ IsCovered (sure_at log.now) held.now sought.now.state sought.now.placed.items }
 {
+    if held.is_empty() {
+        return false;
+    }
     let unsure = unsure_marks(log, sought.placed.as_slice());
     for one in held {
         if covers(log, one, sought, unsure) {

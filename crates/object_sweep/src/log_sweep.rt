@@ -10,7 +10,7 @@ use crate::beam::{Narrow, sweep_narrowly};
 use crate::ending::pass;
 use crate::event::{Turn, first_backwards, turns_in};
 use crate::front::{Front, Mark};
-use crate::places::{is_in, without};
+use crate::places::{is_in, remove};
 use object_core::{Object, Operation};
 use std::alloc::{AllocError, Global};
 
@@ -121,7 +121,7 @@ fn end<O: Object>(
             if kept.is_empty() {
                 return Ok(Some(Verdict::Unlawful { place }));
             }
-            front.under_way = without(alloc, place, front.under_way.as_slice())?;
+            remove(place, &mut front.under_way);
             front.configurations = kept;
             Ok(None)
         }

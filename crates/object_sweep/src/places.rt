@@ -29,6 +29,13 @@ pub(crate) fn with(alloc: Global, places: &[usize], place: usize) -> Result<Vec<
     Ok(more)
 }
 
+/// Takes this one out.
+pub(crate) fn remove(place: usize, places: &mut Vec<usize>)
+    ensures { places.new.items ≡ without place places.old.items }
+{
+    places.retain(|other| *other != place);
+}
+
 /// All but this one.
 pub(crate) fn without(
     alloc: Global,
@@ -37,11 +44,9 @@ pub(crate) fn without(
 ) -> Result<Vec<usize>, AllocError>
     ensures { IfOk result (λ v. v.items ≡ without place places.now) }
 {
-    places
-        .iter()
-        .copied()
-        .filter(|other| *other != place)
-        .collect(alloc)
+    let mut left = Vec::from_slice(alloc, places)?;
+    remove(place, &mut left);
+    Ok(left)
 }
 
 pub(crate) fn mark_of(place: usize) -> u64
