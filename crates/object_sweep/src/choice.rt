@@ -7,6 +7,17 @@ use crate::places::{is_in, mark_of};
 use object_core::{Object, Operation};
 use std::alloc::{AllocError, Global};
 
+/// How many pure operations that are placed count at most.
+const MOST_PURE: usize = 1024;
+
+/// Whether the operation at a place leaves every state as it is.
+fn is_pure_at<O: Object>(log: &[Operation<O::What>], place: usize) -> bool {
+    match log.get(place) {
+        Some(op) => O::is_pure(op.what),
+        None => false,
+    }
+}
+
 /// Whether an operation is placed. Of most that aren't the marks tell.
 fn is_placed<O>(from: &Configuration<O>, place: usize) -> bool {
     from.marks & mark_of(place) != 0 && is_in(place, from.placed.as_slice())
@@ -129,4 +140,22 @@ pub(crate) fn pure_one<O: Object>(
 ) -> Option<usize> {
     with_end.iter().copied().find(|place| is_sure_and_pure::<O>(log, *place)
         && is_open(log, from, *place))
+}
+
+/// Those of these that leave every state as it is.
+fn pure_among<O: Object>(log: &[Operation<O::What>], places: &[usize]) -> usize {
+    places
+        .iter()
+        .filter(|place| is_pure_at::<O>(log, **place))
+        .count()
+}
+
+/// Lower for a configuration that can do more: each operation that it has placed counts one more, but one that leaves
+/// every state as it is one less, as that one waits no longer.
+pub(crate) fn rank_of<O: Object>(log: &[Operation<O::What>], one: &Configuration<O>) -> usize {
+    let placed = one.placed.as_slice();
+    let pure = pure_among::<O>(log, placed);
+    MOST_PURE
+        .saturating_add(placed.len())
+        .saturating_sub(pure.saturating_mul(2))
 }

@@ -1,10 +1,11 @@
 //! The end of an operation in a narrow sweep, which holds few configurations.
 
 ghost use Rattle.std.specs.Prelude.{false, IfOk, OnOk};
+ghost use Rattle.std.specs.List.Sorted.{IsPermutation};
 ghost use Rattle.object_sweep.specs.inner.Steps.{AddsReached, IsNarrowed, IsPassed, KeepsSound};
 
 use crate::at_hand::AtHand;
-use crate::choice::{chosen_from, pure_one};
+use crate::choice::{chosen_from, pure_one, rank_of};
 use crate::configuration::Configuration;
 use crate::ending::{Ending, close, copied, fewest_placed_first, leave_out, start, try_place};
 use crate::places::is_in;
@@ -108,6 +109,21 @@ fn close_wanted<O: Object>(
     Ok(())
 }
 
+/// The same configurations. Where some may have to be left out, those that can do more come first.
+fn freest_first<O: Object>(
+    log: &[Operation<O::What>],
+    kept: Vec<Configuration<O>>,
+) -> Vec<Configuration<O>>
+    ensures { IsPermutation kept.items result.items }
+{
+    if kept.len() <= NARROW {
+        return fewest_placed_first(kept);
+    }
+    let mut kept = kept;
+    kept.sort_unstable_by_key(|one| rank_of(log, one));
+    kept
+}
+
 /// The configurations behind the end of an operation to which those lead that are tried; of those that never ended none
 /// is, where they are spared.
 fn pass_wanted<O: Object>(
@@ -127,7 +143,7 @@ fn pass_wanted<O: Object>(
         alloc, log, under_way, at_hand, sparing, ending, most, &mut sets,
     )?;
     let Ending { waiting: _, kept } = sets;
-    Ok(fewest_placed_first(kept))
+    Ok(freest_first(log, kept))
 }
 
 /// The same. Those that never ended are tried, where they are to be spared, only if nothing is kept without them.
@@ -185,12 +201,12 @@ fn pass_open<O: Object>(
     let whole = close(alloc, log, under_way, ending, most, &mut sets)?;
     let Ending { waiting: _, kept } = sets;
     Ok(Passed {
-        kept: fewest_placed_first(kept),
+        kept: freest_first(log, kept),
         whole,
     })
 }
 
-/// No more of them than this many, those that have placed the fewest.
+/// No more of them than this many, the first.
 fn narrowed<O: Object>(passed: Passed<O>, width: usize) -> Passed<O>
     ensures { IsNarrowed width passed.kept.items result.kept.items passed.whole result.whole }
 {
