@@ -1,5 +1,7 @@
 mod LittleLemmas
 mod OnceLemmas
 mod OneKeyLemmas
+pub mod PrintedLemmas
 pub mod SmallLemmas
 pub mod ToldLemmas
+pub mod WholeLemmas

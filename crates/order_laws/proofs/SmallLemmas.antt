@@ -1,4 +1,4 @@
--- The small log of an unlawful one, as it is told, is unlawful by the same rule.
+-- The small log of an unlawful one has a reason of the same rule, and each of its reasons is one of the whole; and its lines rise.
 use Rattle.std.proofs.Common.{◌≡◌, ℕ, ◌+◌, ◌<◌, ◌≤◌, zero, suc, Bool, true, false, List, [], ◌∷◌, ◌++◌, length, map, slice_get}
 use Rattle.std.proofs.Common.{Option, None, Some, ◌⊎◌, inl, inr, refl, sym, ◌∙◌, ap, subst, arith}
 use Rattle.std.specs.Prelude.{◌==◌, ◌&&◌, ◌||◌, if◌then◌else◌, cond, nat_eq, not}
@@ -7,24 +7,22 @@ use Rattle.std.proofs.lemmas.Bool.{cases_lt, cases_order}
 use Rattle.std.proofs.lemmas.Bool.Decides.{nat_tests}
 use Rattle.std.proofs.lemmas.List.{append-nil, length_push}
 use Rattle.std.proofs.lemmas.Option.{same_Some, slice_get_cases, slice_get_within}
-use Rattle.history_core.proofs.Atomic.{IsSearched, no_crossing, no_early, no_stale, no_unwritten, of_one, shares}
+use Rattle.history_core.proofs.Atomic.{IsSearched, of_one, shares}
 use Rattle.history_core.proofs.Places.{get_last, get_pushed_cases, get_stays}
-use Rattle.history_core.specs.Orders.{IsVerdict, is_write}
+use Rattle.history_core.specs.Orders.{is_write}
 use Rattle.history_core.specs.Reasons.{IsReason, IsUnwritten, OfOneRecord, rule_of}
-use Rattle.history_core.specs.Searches.{IsUnlawful}
 use Rattle.history_core.specs.declared.history.Op.{Op}
-use Rattle.history_core.specs.declared.history.Verdict.TheVariants.{Lawful}
 use Rattle.history_core.specs.declared.reason.Reason.{Reason}
 use Rattle.history_core.specs.declared.reason.Reason.TheVariants.{Unwritten, Early, Stale, Crossed, Limit}
 use Rattle.history_core.specs.declared.thinned.Thinned.{Thinned}
 use Rattle.history_thinning.specs.Answers.{IsKeptAt, NamesKept}
-use Rattle.history_thinning.specs.Thinnings.{Equal, IsThinnedLog, one_term}
+use Rattle.history_thinning.specs.Thinnings.{Equal, IsThinnedLog}
 use Rattle.history_thinning.proofs.Reasons.{alike, kept_at, kept_known, place_of, searched, write_kept}
 use Rattle.print_reasons.specs.KeptAt.{kept_at as kept_place}
 use Rattle.print_reasons.specs.Named.{in_kept, is_item, is_named, places_of, same_item, writes_one_of}
 use Rattle.read_line.specs.Places.{line_at}
-use Rattle.small_log.specs.Small.{lines_of, named_of, one_or_none, small_lines, small_ops, told_ops}
-use Rattle.order_laws.proofs.ToldLemmas.{AreLines, reason_back, reason_on, told_known, unwritten_on}
+use Rattle.small_log.specs.Small.{lines_of, named_of, one_or_none, small_lines, small_ops}
+use Rattle.order_laws.proofs.ToldLemmas.{AreLines}
 
 -- the first place of a number that stands there
 first_at : (places : List ℕ) (i p : ℕ) → slice_get places i ≡ Some p → slice_get places (kept_place places p) ≡ Some p
@@ -238,13 +236,6 @@ here k (x ∷ xs) ys = later (nat_eq x k) (list_any (λ q. nat_eq q k) (xs ++ k 
     later : (a b : Bool) → b ≡ true → (a || b) ≡ true
     later true b t = refl
     later false b t = t
-
-at_least_1 : (reason : Reason) → 1 ≤ rule_of reason
-at_least_1 (Unwritten read) = omega arith
-at_least_1 (Early read write) = omega arith
-at_least_1 (Stale before read) = omega arith
-at_least_1 (Crossed a b c d) = omega arith
-at_least_1 (Limit refused) = omega arith
 
 module _ (limit : ℕ) (log : List (Op ℕ)) (thinned : Thinned) (is : IsThinnedLog limit log thinned) where
   known : IsSearched Equal 0 log
@@ -504,91 +495,5 @@ module _ (limit : ℕ) (log : List (Op ℕ)) (thinned : Thinned) (is : IsThinned
       )
   reason_of_log reason (Limit refused) r l = absurd (omega (arith, l))
 
-  -- ---- the small log as it is told by lines
-
   pub own_lines : (reason : Reason) → AreLines (small_lines thinned reason) (small_ops thinned reason)
   own_lines reason = are_lines thinned.history.ops (places_of (in_kept thinned.places reason)) thinned.places is.kept.long is.kept.rise
-
-  -- a reason of it
-  reason_told : (reason : Reason) (lines : List ℕ) → AreLines lines (small_ops thinned reason) → IsReason Equal 0 limit log reason →
-      NamesKept thinned.places reason → rule_of reason < 5 →
-      ((again : Reason) × (rule_of again ≡ rule_of reason) × IsReason Equal 0 limit (told_ops lines (small_ops thinned reason)) again)
-      ⊎ ((p : ℕ) × IsUnwritten Equal 0 (small_ops thinned reason) p)
-  reason_told reason lines are r w l =
-      let again = by_same_rule reason r w l in
-      let e : rule_of again.0 ≡ rule_of reason = again.1 in
-      elim (reason_on lines (small_ops thinned reason) are limit again.0 again.2 (omega (arith, e, l))) [
-        | inl r ↦ inl (again.0, e, r)
-        | inr unwritten ↦ inr unwritten
-      ]
-
-  -- no order of it is lawful
-  pub none_lawful : (reason : Reason) (lines : List ℕ) → AreLines lines (small_ops thinned reason) → IsReason Equal 0 limit log reason →
-      NamesKept thinned.places reason → rule_of reason < 5 →
-      (order : List ℕ) → ¬ IsVerdict Equal 0 (one_term limit) (told_ops lines (small_ops thinned reason)) order Lawful
-  none_lawful reason lines are r w l order verdict = elim (reason_told reason lines are r w l) [
-    | inl again ↦ let e : rule_of again.0 ≡ rule_of reason = again.1 in excluded again.0 (omega (arith, e, l)) again.2
-    | inr unwritten ↦ no_unwritten Equal 0 (told_ops lines (small_ops thinned reason)) order known_told verdict.0 unwritten.0
-        (unwritten_on lines (small_ops thinned reason) are unwritten.0 unwritten.1)
-  ]
-    where
-      known_told : IsSearched Equal 0 (told_ops lines (small_ops thinned reason))
-      known_told = told_known lines (small_ops thinned reason) are (small_known reason)
-
-      excluded : (other : Reason) → rule_of other < 5 → IsReason Equal 0 limit (told_ops lines (small_ops thinned reason)) other → ⊥
-      excluded (Unwritten a) m h = no_unwritten Equal 0 (told_ops lines (small_ops thinned reason)) order known_told verdict.0 a h
-      excluded (Early a b) m h = no_early Equal 0 (told_ops lines (small_ops thinned reason)) order known_told verdict.0 a b h
-      excluded (Stale a b) m h = no_stale Equal 0 (told_ops lines (small_ops thinned reason)) order known_told verdict.0 a b h
-      excluded (Crossed a b c d) m h =
-          no_crossing Equal 0 (told_ops lines (small_ops thinned reason)) order known_told verdict.0 a b c d h
-      excluded (Limit a) m h = absurd (omega (arith, m))
-
-  -- where the log has no reason of an earlier rule, it has none either
-  first_told : (reason : Reason) (lines : List ℕ) → AreLines lines (small_ops thinned reason) →
-      ((other : Reason) → IsReason Equal 0 limit log other → rule_of reason ≤ rule_of other) → rule_of reason < 5 →
-      (other : Reason) → IsReason Equal 0 limit (told_ops lines (small_ops thinned reason)) other → rule_of reason ≤ rule_of other
-  first_told reason lines are first l other r = elim (cases_lt (rule_of other) 5) [
-    | inr ge ↦ omega (arith, l, ge)
-    | inl less ↦ elim (reason_back lines (small_ops thinned reason) are limit other r less) [
-      | inl back ↦
-          let w = reason_of_log reason other back less in
-          let e : rule_of w.0 ≡ rule_of other = w.1 in
-          let le : rule_of reason ≤ rule_of w.0 = first w.0 w.2 in
-          omega (arith, e, le)
-      | inr unwritten ↦
-          let w = unwritten_of_log reason unwritten.0 unwritten.1 in
-          let le : rule_of reason ≤ 1 = first (Unwritten w.0) w.1 in
-          let ge : 1 ≤ rule_of other = at_least_1 other in
-          omega (arith, le, ge)
-    ]
-  ]
-
-  -- it is unlawful by the same rule
-  pub unlawful_told : (reason : Reason) (lines : List ℕ) → AreLines lines (small_ops thinned reason) →
-      IsUnlawful Equal 0 limit (one_term limit) log reason → NamesKept thinned.places reason → rule_of reason < 5 →
-      (again : Reason) × (rule_of again ≡ rule_of reason)
-      × IsUnlawful Equal 0 limit (one_term limit) (told_ops lines (small_ops thinned reason)) again
-  unlawful_told reason lines are unlawful w l = elim (reason_told reason lines are unlawful.is w l) [
-    | inl again ↦ as_told again.0 again.1 again.2
-    | inr unwritten ↦
-        let v = unwritten_of_log reason unwritten.0 unwritten.1 in
-        let le : rule_of reason ≤ 1 = unlawful.first (Unwritten v.0) v.1 in
-        let ge : 1 ≤ rule_of reason = at_least_1 reason in
-        as_told (Unwritten unwritten.0) (let e : 1 ≡ rule_of reason = omega (arith, le, ge) in e)
-        (unwritten_on lines (small_ops thinned reason) are unwritten.0 unwritten.1)
-  ]
-    where
-      as_told : (again : Reason) → rule_of again ≡ rule_of reason →
-          IsReason Equal 0 limit (told_ops lines (small_ops thinned reason)) again →
-          (again : Reason) × (rule_of again ≡ rule_of reason)
-          × IsUnlawful Equal 0 limit (one_term limit) (told_ops lines (small_ops thinned reason)) again
-      as_told again e r = (
-        again,
-        e,
-        record {
-          none = none_lawful reason lines are unlawful.is w l;
-          is = r;
-          first = λ other h. let le : rule_of reason ≤ rule_of other = first_told reason lines are unlawful.first l other h in
-              omega (arith, e, le);
-        },
-      )

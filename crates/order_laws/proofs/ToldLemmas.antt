@@ -421,9 +421,10 @@ module _ (lines : List ℕ) (ops : List (Op ℕ)) (are : AreLines lines ops) whe
         at = w.1;
         finished = subst (λ (z : Op ℕ). IsSome z.ends) (sym w.2) r.finished;
         opened = λ h. r.opened (subst (λ (z : Op ℕ). IsOfOpening Equal 0 z) w.2 (opened_on p w.0 h));
-        written = λ j b at t one. r.written j (told_op lines ops j b) (told_at j b at) t
-            (subst (λ (z : Op ℕ). OfOneRecord Equal z (told_op lines ops j b)) w.2
-            (one_on p j w.0 b (known_by_write j w.0 b at t one) one));
+        written = λ j b at t one.
+            let known = known_by_write j w.0 b at t one in
+            r.written j (told_op lines ops j b) (told_at j b at) t
+            (subst (λ (z : Op ℕ). OfOneRecord Equal z (told_op lines ops j b)) w.2 (one_on p j w.0 b known one));
       }
 
   early_back : (p q : ℕ) → IsEarly Equal (told_ops lines ops) p q → IsEarly Equal ops p q

@@ -1,6 +1,7 @@
 //! Laws over the definitions.
 
-ghost use Rattle.std.specs.Prelude.{◌≡◌, ◌≢◌, ◌<◌, ◌≤◌, ◌↔◌, ℕ, List, [], Result, false, true};
+ghost use Rattle.std.specs.Prelude.{◌≡◌, ◌≢◌, ◌<◌, ◌≤◌, ◌↔◌, ℕ, List, [], Option, Result, false, true};
+ghost use Rattle.std.specs.Prelude.{unwrap_or};
 ghost use Rattle.history_core.specs.Orders.{IsVerdict, KeepsPrecedence};
 ghost use Rattle.history_core.specs.Reasons.{IsReason, rule_of};
 ghost use Rattle.history_core.specs.Searches.{IsUnlawful};
@@ -8,19 +9,24 @@ ghost use Rattle.history_core.specs.declared.history.Op.{Op};
 ghost use Rattle.history_core.specs.declared.history.Verdict.TheVariants.{Lawful};
 ghost use Rattle.history_core.specs.declared.reason.Reason.{Reason};
 ghost use Rattle.history_core.specs.declared.thinned.LogAnswer.{LogAnswer};
+ghost use Rattle.history_core.specs.declared.thinned.LogAnswer.TheVariants.{Unlawful};
 ghost use Rattle.history_core.specs.declared.thinned.Thinned.{Thinned};
 ghost use Rattle.history_thinning.specs.Answers.{NamesKept};
 ghost use Rattle.history_thinning.specs.Thinnings.{Equal, IsThinnedLog, one_term};
 ghost use Rattle.history_thinning.specs.Tasks.{KeepsTasks};
 ghost use Rattle.lines_log.specs.Logs.{IsLinesLog};
+ghost use Rattle.lines_log.specs.declared.keys_log.KeyLog.{KeyLog};
 ghost use Rattle.lines_log.specs.declared.lines_log.LinesLog.{LinesLog};
 ghost use Rattle.program_runs.specs.declared.fault.Answer.{Answer};
 ghost use Rattle.program_runs.specs.declared.fault.Fault.{Fault};
 ghost use Rattle.program_runs.specs.declared.show.Show.{Show};
 ghost use Rattle.read_document.specs.Kinds.{are_lines};
+ghost use Rattle.read_line.specs.Lines.{Head};
 ghost use Rattle.small_log.specs.Small.{small_lines, small_ops, told_ops};
 ghost use Rattle.fsr_log_answers.specs.Logs.{IsLogAnswer};
 ghost use Rattle.fsr_once_answers.specs.ByKeys.{IsAnswerByKeys, IsAnswerIfSmall};
+ghost use Rattle.fsr_once_answers.specs.KeysAnswers.{IsKeyJudged};
+ghost use Rattle.fsr_once_answers.specs.KeysText.{whole_reason, whole_thinned};
 ghost use Rattle.fsr_once_answers.specs.LinesAnswers.{status_of};
 ghost use Rattle.fsr_once_answers.specs.Once.{IsAnswerOnce};
 ghost use Rattle.fsr_once_answers.specs.Text.{shown_text};
@@ -67,6 +73,16 @@ pub fn small_is_unlawful()
         NamesKept thinned.places reason → rule_of reason < 5 →
         (order : List ℕ) → ¬ IsVerdict Equal 0 (one_term limit)
         (told_ops (small_lines thinned reason) (small_ops thinned reason)) order Lawful }
+{}
+
+/// So is that of a key whose operations have no lawful order, among those of other keys.
+pub fn small_of_key_is_unlawful()
+    ensures { (head : Head) (lines : List (List ℕ)) (key : Option (List ℕ)) (one : KeyLog) (reason : Reason) →
+        IsKeyJudged head lines key one (Unlawful reason) → rule_of reason < 5 →
+        (again : Reason) × (rule_of again ≡ rule_of reason)
+        × IsUnlawful Equal 0 (unwrap_or head.limit 1) (one_term (unwrap_or head.limit 1))
+        (told_ops (small_lines (whole_thinned one.places.items one.log.thinned) (whole_reason one.places.items reason))
+        (small_ops (whole_thinned one.places.items one.log.thinned) (whole_reason one.places.items reason))) again }
 {}
 
 /// The answer to a log in lines whose records don't repeat, by itself, is an answer of the command; so is its refusal

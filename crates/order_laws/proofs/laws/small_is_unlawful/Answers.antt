@@ -1,12 +1,13 @@
 -- By the lines of its operations, which rise.
 use Rattle.small_log.specs.Small.{small_lines}
-use Rattle.order_laws.proofs.SmallLemmas.{none_lawful, own_lines, unlawful_told}
+use Rattle.order_laws.proofs.PrintedLemmas.{none_lawful, unlawful_told}
+use Rattle.order_laws.proofs.SmallLemmas.{own_lines}
 use Rattle.order_laws.proofs.laws.small_is_unlawful.Goals as goal
 
 pub returns-clause-rule : goal.returns-clause-rule
-returns-clause-rule c limit log thinned reason is =
-    unlawful_told limit log thinned is reason (small_lines thinned reason) (own_lines limit log thinned is reason)
+returns-clause-rule c limit log thinned reason is unlawful kept less =
+    unlawful_told limit log thinned is reason (small_lines thinned reason) (own_lines limit log thinned is reason) kept less unlawful
 
 pub returns-clause-none : goal.returns-clause-none
-returns-clause-none c limit log thinned reason is =
-    none_lawful limit log thinned is reason (small_lines thinned reason) (own_lines limit log thinned is reason)
+returns-clause-none c limit log thinned reason is r kept less =
+    none_lawful limit log thinned is reason (small_lines thinned reason) (own_lines limit log thinned is reason) kept less r
