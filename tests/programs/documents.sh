@@ -42,9 +42,9 @@ compares() {
 
 # Sees that the last comparison had each kind of answer to a log whose records repeat, and each refusal of one.
 has_answers() {
-    for told in lawful 'unlawful unwritten' 'unlawful early' 'unlawful together' 'unlawful lost' \
+    for told in lawful 'unlawful unwritten' 'unlawful early' 'unlawful together' 'unlawful lost' 'unlawful limit' \
         'line N: no header of kind `lines`, and no document: not JSON' 'line N: not JSON' 'line N: end before begin' \
-        'missing opening' 'shape of opening' 'shape of limit' 'range of limit' 'law of limit' 'missing who' 'missing kind' 'missing begin' 'missing end' 'missing record' \
+        'missing opening' 'shape of opening' 'shape of limit' 'range of limit' 'missing who' 'missing kind' 'missing begin' 'missing end' 'missing record' \
         'shape of who' 'shape of kind' 'shape of begin' 'shape of end' 'shape of record' 'shape of key' 'missing from' 'missing swapped' \
         'shape of from' 'shape of swapped' 'shape of found' 'law of record' 'law of swapped' 'law of found' 'law of key' 'missing limit' \
         'missing ops' 'shape of ops' 'law of ops'; do
@@ -107,6 +107,7 @@ test_documents() {
     differs "a log that is lost told as lawful" repeats 's/^unlawful lost .*/lawful/'
     differs "an unwritten record told as lost" repeats 's/^unlawful unwritten /unlawful lost /'
     differs "another line that can have written a record" repeats 's/^\(unlawful early [0-9]*\) /\1 1/'
+    differs "a log that is lost by its limit told as lost" repeats 's/^unlawful limit /unlawful lost /'
     differs "another beginning of a window" repeats 's/^From time \([0-9]*\)/&1/'
     differs "a window without its first line" repeats 's/^unlawful together [0-9]*/unlawful together/'
     differs "what is uncertain as unfinished" repeats 's/ 0 unfinished, 1 uncertain/ 1 unfinished, 0 uncertain/'

@@ -1,13 +1,13 @@
 -- No operation of a log that was read ended before it began: no line says one that did.
 use Rattle.std.proofs.Common.{◌≡◌, ℕ, ◌≤◌, ◌∙◌, Bool, true, false, List, [], refl, ap, sym, subst, arith, length, slice_get}
 use Rattle.std.proofs.Common.{Option, Some, None, Ok, Err}
-use Rattle.std.specs.Prelude.{◌==◌, ◌<◌, if◌then◌else◌}
+use Rattle.std.specs.Prelude.{◌==◌, ◌<◌, ◌||◌, not, if◌then◌else◌}
 use Rattle.std.proofs.lemmas.Option.{slice_get-get_or, slice_get_within}
 use Rattle.object_core.specs.declared.operation.Operation.{Operation}
 use Rattle.object_registers.specs.declared.exchanging.Exchange.{Exchange}
 use Rattle.read_document.specs.declared.refusal.DocError.{DocError}
-use Rattle.lines_log.specs.Logs.{same_key}
-use Rattle.read_exchange.specs.Exchanges.{done, entry_of, ExchangeEntry, KeyedExchange, operation, refused, SaidExchange}
+use Rattle.lines_log.specs.Logs.{LineRule, same_key}
+use Rattle.read_exchange.specs.Exchanges.{done, entry_of, ExchangeEntry, is_refusal, KeyedExchange, operation, SaidExchange}
 use Rattle.read_exchange.proofs.ForwardLemmas.{bound, false-true, is_right, ok_or}
 use Rattle.exchanges_log.specs.ExchangeLogs.{IsExchangesLog, judged, judged_line}
 use Rattle.exchanges_log.specs.declared.exchanges_log.ExchangesLog.{ExchangesLog}
@@ -27,13 +27,11 @@ abbrev is_there : Option (Operation SaidExchange) → Bool
 is_there None = false
 is_there (Some o) = true
 
-taken : (b : Bool) (o op : Operation SaidExchange) (w : DocError) → (if b then Ok (Some o) else Err w) ≡ Ok (Some op) → o ≡ op
-taken true o op w e = ap (op_or o) (ap (ok_or None) e)
-taken false o op w e = false-true (ap is_right e)
-
-none_taken : (b : Bool) (op : Operation SaidExchange) (v w : DocError) → (if b then Err v else Err w) ≡ Ok (Some op) → ⊥
-none_taken true op v w e = false-true (ap is_right e)
-none_taken false op v w e = false-true (ap is_right e)
+taken : (same may : Bool) (o op : Operation SaidExchange) (v w : DocError) →
+    (if same then (if may then Ok (Some o) else Err v) else Err w) ≡ Ok (Some op) → o ≡ op
+taken true true o op v w e = ap (op_or o) (ap (ok_or None) e)
+taken true false o op v w e = false-true (ap is_right e)
+taken false may o op v w e = false-true (ap is_right e)
 
 not_done : (last same : Bool) (op : Operation SaidExchange) (v w : DocError) →
     (if last then (if same then Ok None else Err v) else Err w) ≡ Ok (Some op) → ⊥
@@ -42,18 +40,17 @@ not_done true false op v w e = false-true (ap is_right e)
 not_done false same op v w e = false-true (ap is_right e)
 
 -- what is judged to be an operation is one that the line says
-judged_forwards : (which : Option (List ℕ)) (count : ℕ) (last : Bool) (said : ExchangeEntry) (op : Operation SaidExchange) →
-    ((o : KeyedExchange) → said ≡ operation o → RunsForwards o.op) → judged which count last said ≡ Ok (Some op) → RunsForwards op
-judged_forwards which count last (operation o) op is e =
-    subst RunsForwards (taken (same_key which o.key) o.op op _ e) (is o refl)
-judged_forwards which count last (refused other) op is e = absurd (none_taken (same_key which other) op _ _ e)
-judged_forwards which count last (done ops) op is e = absurd (not_done last (ops == count) op _ _ e)
+judged_forwards : (rule : LineRule) (count : ℕ) (last : Bool) (said : ExchangeEntry) (op : Operation SaidExchange) →
+    ((o : KeyedExchange) → said ≡ operation o → RunsForwards o.op) → judged rule count last said ≡ Ok (Some op) → RunsForwards op
+judged_forwards rule count last (operation o) op is e =
+    subst RunsForwards (taken (same_key rule.key o.key) (rule.limited || not (is_refusal o.op.what)) o.op op _ _ e) (is o refl)
+judged_forwards rule count last (done ops) op is e = absurd (not_done last (ops == count) op _ _ e)
 
-judged_line_forwards : SaysForwards → (which : Option (List ℕ)) (count : ℕ) (last : Bool) (line : List ℕ) (op : Operation SaidExchange) →
-    judged_line which count last line ≡ Ok (Some op) → RunsForwards op
-judged_line_forwards says which count last line op e =
+judged_line_forwards : SaysForwards → (rule : LineRule) (count : ℕ) (last : Bool) (line : List ℕ) (op : Operation SaidExchange) →
+    judged_line rule count last line ≡ Ok (Some op) → RunsForwards op
+judged_line_forwards says rule count last line op e =
     let entry = bound (entry_of line) _ _ e in
-    judged_forwards which count last entry.0 op (λ o same end ended. says line o end (entry.1 ∙ ap Ok same) ended) entry.2
+    judged_forwards rule count last entry.0 op (λ o same end ended. says line o end (entry.1 ∙ ap Ok same) ended) entry.2
 
 pub forwards : SaysForwards → (bytes : List ℕ) (read : ExchangesLog) → IsExchangesLog bytes read → (p end : ℕ) (o : Operation Exchange) →
     slice_get read.ops.items p ≡ Some o → o.ends ≡ Some end → o.starts ≤ end

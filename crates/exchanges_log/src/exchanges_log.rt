@@ -6,6 +6,8 @@ use object_registers::Exchange;
 pub struct ExchangesLog {
     /// The operation at place p stands on line p + 2.
     pub ops: Vec<Operation<Exchange>>,
+    /// How many writes stand before the first that may be refused; none where none is.
+    pub limit: Option<u64>,
     /// How many of them have no end.
     pub unfinished: usize,
     /// How many of them have ended, and may have done nothing.

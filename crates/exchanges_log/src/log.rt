@@ -4,7 +4,7 @@ ghost use Rattle.std.specs.Prelude.{IfErr, IfOk, OnOk};
 ghost use Rattle.exchanges_log.specs.ExchangeFaults.{IsExchangesBodyFault, IsExchangesFault};
 ghost use Rattle.exchanges_log.specs.ExchangeLogs.{first_key, IsExchangesLog};
 ghost use Rattle.exchanges_log.specs.inner.ExchangeReadings.{AreExchangesFinished, AreExchangesRead, IsBodyRead};
-ghost use Rattle.exchanges_log.specs.inner.ExchangeReadings.{key_of};
+ghost use Rattle.exchanges_log.specs.inner.ExchangeReadings.{rule_of};
 ghost use Rattle.read_document.specs.Splits.{lines_of};
 
 use crate::counts::{uncertain_in, unfinished_in};
@@ -13,7 +13,8 @@ use crate::reader::Reader;
 use lines_log::{is_end, refused_at, text_of};
 use program_runs::Fault;
 use read_document::{DocError, split_line};
-use read_exchange::{ExchangeLine, ExchangeOp, read_exchange, read_exchange_header};
+use read_exchange::{ExchangeLine, ExchangeOp, read_exchange};
+use read_line::read_header;
 use std::alloc::{AllocError, Global};
 
 /// The line of the header.
@@ -28,20 +29,21 @@ pub fn read_exchanges(alloc: Global, bytes: &[u8]) -> Result<ExchangesLog, Fault
     let Some((first, body)) = split_line(text) else {
         return Err(refused_at(HEADER, DocError::NotJson));
     };
-    let opening = match read_exchange_header(alloc, first) {
-        Ok(opening) => opening,
+    let header = match read_header(alloc, first) {
+        Ok(header) => header,
         Err(why) => return Err(refused_at(HEADER, why)),
     };
     let key = match first_key(alloc, body) {
         Ok(key) => key,
         Err(_) => return Err(Fault::NoMemory),
     };
-    let mut reader = match Reader::new(alloc, opening, key) {
+    let limit = header.limit;
+    let mut reader = match Reader::new(alloc, header, key) {
         Ok(reader) => reader,
         Err(_) => return Err(Fault::NoMemory),
     };
     match read_body(alloc, &mut reader, body) {
-        Ok(ended) => Ok(finish(ended, reader)),
+        Ok(ended) => Ok(finish(limit, ended, reader)),
         Err(fault) => Err(fault),
     }
 }
@@ -55,7 +57,6 @@ fn first_key(alloc: Global, body: &[u8]) -> Result<Option<String>, AllocError>
     };
     match read_exchange(alloc, line) {
         Ok(ExchangeLine::Operation(op)) => Ok(key_of(op)),
-        Ok(ExchangeLine::Refused(key)) => Ok(key),
         Ok(ExchangeLine::Done(_)) => Ok(None),
         Err(DocError::NoMemory) => Err(AllocError),
         Err(_) => Ok(None),
@@ -75,9 +76,9 @@ fn read_body(alloc: Global, reader: &mut Reader, body: &[u8]) -> Result<bool, Fa
     requires known { (opening : List ℕ) × AreExchangesRead opening [] reader.old }
     ensures read { IfOk result (λ ended. (opening : List ℕ) → AreExchangesRead opening [] reader.old →
         IsBodyRead opening (lines_of body.now) reader.new ended) }
-    ensures key { OnOk result (key_of reader.new ≡ key_of reader.old) }
+    ensures rule { OnOk result (rule_of reader.new ≡ rule_of reader.old) }
     ensures fault { IfErr result (λ fault. (opening : List ℕ) → AreExchangesRead opening [] reader.old →
-        IsExchangesBodyFault opening (key_of reader.old) (lines_of body.now) fault) }
+        IsExchangesBodyFault opening (rule_of reader.old) (lines_of body.now) fault) }
 {
     let mut rest = body;
     let mut ended = false;
@@ -92,14 +93,15 @@ fn read_body(alloc: Global, reader: &mut Reader, body: &[u8]) -> Result<bool, Fa
     Ok(ended)
 }
 
-fn finish(ended: bool, reader: Reader) -> ExchangesLog
-    ensures { AreExchangesFinished ended reader result }
+fn finish(limit: Option<u64>, ended: bool, reader: Reader) -> ExchangesLog
+    ensures { AreExchangesFinished limit ended reader result }
 {
     let Reader { numbering, ops, .. } = reader;
     let unfinished = unfinished_in(ops.as_slice());
     let uncertain = uncertain_in(ops.as_slice());
     ExchangesLog {
         ops,
+        limit,
         unfinished,
         uncertain,
         records: numbering.count(),

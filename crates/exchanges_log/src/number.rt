@@ -65,6 +65,10 @@ fn number_what(numbering: &mut Numbering, what: TextExchange) -> Result<Exchange
             let (from, to) = number_two(numbering, from, to)?;
             Ok(Exchange::Tries(from, to))
         }
+        TextExchange::Refuses(text) => {
+            let number = number(numbering, text)?;
+            Ok(Exchange::Refuses(number))
+        }
     }
 }
 

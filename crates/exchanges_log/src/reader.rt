@@ -1,6 +1,6 @@
 //! The reader.
 ghost use Rattle.std.specs.Prelude.{◌≡◌, ◌<◌, ◌≤◌, ◌+◌, ◌^◌, ◌++◌, ◌∷◌, [], ℕ, List, length, Bool, Ok, Some};
-ghost use Rattle.std.specs.Prelude.{option_map, IfErr, IfOk, OnOk, string_bytes};
+ghost use Rattle.std.specs.Prelude.{is_some, option_map, IfErr, IfOk, OnOk, string_bytes};
 ghost use Rattle.exchanges_log.specs.ExchangeFaults.{IsExchangeFault};
 ghost use Rattle.exchanges_log.specs.ExchangeLogs.{judged_line};
 ghost use Rattle.read_exchange.specs.Exchanges.{exchange_seen};
@@ -12,12 +12,14 @@ use object_core::Operation;
 use object_registers::Exchange;
 use program_runs::Fault;
 use read_exchange::ExchangeOp;
-use read_line::{Numbering, line_at};
+use read_line::{LogHeader, Numbering, line_at};
 use std::alloc::{AllocError, Global};
 
 /// What was read of a log.
 #[derive(Drop)]
 pub(crate) struct Reader {
+    /// Whether the header has a limit.
+    pub limited: bool,
     /// The key of each operation, if it has one.
     pub key: Option<String>,
     pub numbering: Numbering,
@@ -25,17 +27,20 @@ pub(crate) struct Reader {
 }
 
 impl Reader {
-    ghost use Rattle.exchanges_log.specs.inner.ExchangeReadings.{AreExchangesRead, HasReadExchanges, key_of};
+    ghost use Rattle.exchanges_log.specs.inner.ExchangeReadings.{AreExchangesRead, HasReadExchanges, rule_of};
     ghost use Rattle.exchanges_log.specs.inner.ExchangeReadings.{ReadsExchange};
 
     /// No line yet.
-    pub fn new(alloc: Global, opening: String, key: Option<String>) -> Result<Reader, AllocError>
-        ensures read { IfOk result (AreExchangesRead (string_bytes opening) []) }
-        ensures key { IfOk result (λ reader. key_of reader ≡ option_map string_bytes key) }
+    pub fn new(alloc: Global, header: LogHeader, key: Option<String>) -> Result<Reader, AllocError>
+        ensures read { IfOk result (AreExchangesRead (string_bytes header.opening) []) }
+        ensures rule { IfOk result (λ reader. rule_of reader ≡
+            record { limited = is_some header.limit; key = option_map string_bytes key }) }
         ensures none { IfOk result (λ reader. reader.ops.items ≡ []) }
     {
-        let numbering = Numbering::new(alloc, opening)?;
+        let limited = header.limit.is_some();
+        let numbering = Numbering::new(alloc, header.opening)?;
         Ok(Reader {
+            limited,
             key,
             numbering,
             ops: Vec::new(alloc),
@@ -49,14 +54,14 @@ impl Reader {
         ensures read { IfOk result (λ ended. (opening : List ℕ) (lines : List (List ℕ)) →
             AreExchangesRead opening lines self.old →
             ReadsExchange opening lines bytes.now last self.old self.new ended) }
-        ensures key { OnOk result (key_of self.new ≡ key_of self.old) }
+        ensures rule { OnOk result (rule_of self.new ≡ rule_of self.old) }
         ensures grows { OnOk result (length self.new.ops.items ≤ length self.old.ops.items + 1) }
         ensures fault { IfErr result (λ fault. (opening : List ℕ) (lines : List (List ℕ)) →
             AreExchangesRead opening lines self.old →
-            IsExchangeFault (key_of self.old) lines bytes.now last fault) }
+            IsExchangeFault (rule_of self.old) lines bytes.now last fault) }
     {
         let place = self.ops.len();
-        match read_op(alloc, &self.key, place, last, bytes) {
+        match read_op(alloc, self.limited, &self.key, place, last, bytes) {
             Ok(Some(op)) => match self.enter(op) {
                 Ok(()) => Ok(false),
                 Err(_) => Err(Fault::NoMemory),
@@ -70,9 +75,9 @@ impl Reader {
     fn enter(&mut self, op: ExchangeOp) -> Result<(), AllocError>
         ensures entered { OnOk result ((opening : List ℕ) (lines : List (List ℕ)) (line : List ℕ) (last : Bool) →
             AreExchangesRead opening lines self.old →
-            judged_line (key_of self.old) (length lines) last line ≡ Ok (Some (exchange_seen op)) →
+            judged_line (rule_of self.old) (length lines) last line ≡ Ok (Some (exchange_seen op)) →
             AreExchangesRead opening (lines ++ line ∷ []) self.new) }
-        ensures key { OnOk result (key_of self.new ≡ key_of self.old) }
+        ensures rule { OnOk result (rule_of self.new ≡ rule_of self.old) }
         ensures grows { OnOk result (length self.new.ops.items ≡ length self.old.ops.items + 1) }
     {
         let next = number_op(&mut self.numbering, op)?;

@@ -6,6 +6,7 @@ use Rattle.object_core.specs.declared.operation.Operation.{Operation}
 use Rattle.object_sources.specs.declared.source.Unsourced.{Unsourced}
 use Rattle.object_sources.specs.declared.source.Unsourced.TheVariants.{Unwritten, Early}
 use Rattle.print_reasons.specs.Counts.{count_text, end_text}
+use Rattle.print_reasons.specs.Limited.{limited_lines}
 use Rattle.print_reasons.specs.Lost.{lost_text}
 use Rattle.print_reasons.specs.Together.{together_text}
 use Rattle.print_reasons.specs.Unsourced.{early_lines, unwritten_lines}
@@ -48,3 +49,8 @@ shown_text bytes log place Nothing = lost_text bytes place (end_of log.ops.items
 
 abbrev pub unlawful_text : List ℕ → ExchangesLog → ℕ → Evidence → List ℕ
 unlawful_text bytes log place evidence = shown_text bytes log place evidence ++ counts_text log
+
+-- of a log that is lawful without this limit
+abbrev pub limited_text : List ℕ → ExchangesLog → ℕ → ℕ → List ℕ
+limited_text bytes log place limit =
+    limited_lines bytes place (end_of log.ops.items place) limit ++ counts_text log

@@ -1,3 +1,4 @@
 pub mod Evidence
 pub mod Exchanges
 pub mod ExchangesText
+pub mod Judgements

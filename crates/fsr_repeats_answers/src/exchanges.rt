@@ -1,18 +1,16 @@
 //! The answer to a log whose records repeat.
 ghost use Rattle.std.specs.Prelude.{◌≡◌, IfOk};
-ghost use Rattle.fsr_repeats_answers.specs.Exchanges.{IsExchangesAnswer, IsShown, IsSwept, printed};
-ghost use Rattle.fsr_repeats_answers.specs.declared.evidence.Evidence.{Evidence};
+ghost use Rattle.fsr_repeats_answers.specs.Exchanges.{IsExchangesAnswer, printed};
+ghost use Rattle.fsr_repeats_answers.specs.Judgements.{IsJudgement};
+ghost use Rattle.fsr_repeats_answers.specs.declared.judgement.Judgement.{Judgement};
 ghost use Rattle.object_sweep.specs.Rests.{RunForwards};
-ghost use Rattle.object_sweep.specs.declared.log_sweep.Verdict.{Verdict};
 ghost use Rattle.program_runs.specs.Answers.{GivesReply};
 
-use crate::evidence::{Evidence, OPENING, evidence_at};
-use crate::exchanges_text::{lawful_text, unlawful_text};
+use crate::exchanges_text::{lawful_text, limited_text, unlawful_text};
+use crate::judgement::{Judgement, judge};
 use exchanges_log::laws::read_log_runs_forwards;
 use exchanges_log::{ExchangesLog, read_exchanges};
 use history_core::Items;
-use object_registers::Exchanging;
-use object_sweep::{SweepError, Verdict, sweep};
 use program_runs::{Answer, Fault};
 use read_line::line_of;
 use std::alloc::{AllocError, Global};
@@ -34,7 +32,7 @@ pub fn order_exchanges(alloc: Global, budget: usize, bytes: &[u8]) -> Result<Ans
     }
 }
 
-/// What the sweep tells, printed.
+/// What is known, printed.
 fn answer_log(
     alloc: Global,
     budget: usize,
@@ -42,62 +40,54 @@ fn answer_log(
     log: &ExchangesLog,
 ) -> Result<Result<Answer, Fault>, AllocError>
     requires { RunForwards log.now.ops.items }
-    ensures { IfOk result (λ reply. (verdict : Verdict) × (evidence : Evidence) × IsSwept log.now budget verdict
-        × IsShown log.now verdict evidence × (reply ≡ printed bytes.now log.now verdict evidence)) }
+    ensures { IfOk result (λ reply. (judgement : Judgement)
+        × IsJudgement log.now.limit log.now.ops.items budget judgement
+        × (reply ≡ printed bytes.now log.now judgement)) }
 {
-    let verdict = sweep_log(alloc, budget, log)?;
-    let evidence = evidence_of(alloc, log, verdict)?;
-    print(alloc, bytes, log, verdict, &evidence)
+    let judgement = judge_log(alloc, budget, log)?;
+    print(alloc, bytes, log, &judgement)
 }
 
-/// The sweep from the opening on.
-fn sweep_log(alloc: Global, budget: usize, log: &ExchangesLog) -> Result<Verdict, AllocError>
+fn judge_log(alloc: Global, budget: usize, log: &ExchangesLog) -> Result<Judgement, AllocError>
     requires { RunForwards log.now.ops.items }
-    ensures { IfOk result (IsSwept log.now budget) }
+    ensures { IfOk result (IsJudgement log.now.limit log.now.ops.items budget) }
 {
-    match sweep(
-        alloc,
-        Exchanging { held: OPENING },
-        log.ops.as_slice(),
-        budget,
-    ) {
-        Ok(verdict) => Ok(verdict),
-        Err(SweepError::NoMemory) => Err(AllocError),
-        Err(SweepError::Backwards { place: _ }) => unreachable!(),
-    }
-}
-
-/// What shows that the log is lost, if it is.
-fn evidence_of(alloc: Global, log: &ExchangesLog, verdict: Verdict) -> Result<Evidence, AllocError>
-    ensures { IfOk result (IsShown log.now verdict) }
-{
-    match verdict {
-        Verdict::Unlawful { place } => evidence_at(alloc, log.ops.as_slice(), place),
-        _ => Ok(Evidence::Nothing),
-    }
+    judge(alloc, budget, log.limit, log.ops.as_slice())
 }
 
 fn print(
     alloc: Global,
     bytes: &[u8],
     log: &ExchangesLog,
-    verdict: Verdict,
-    evidence: &Evidence,
+    judgement: &Judgement,
 ) -> Result<Result<Answer, Fault>, AllocError>
-    ensures { IfOk result (λ reply. reply ≡ printed bytes.now log.now verdict evidence.now) }
+    ensures { IfOk result (λ reply. reply ≡ printed bytes.now log.now judgement.now) }
 {
-    match verdict {
-        Verdict::Lawful => {
+    match judgement {
+        Judgement::Lawful => {
             let text = Items::new(lawful_text(alloc, log)?);
             Ok(Ok(Answer { text, status: 0 }))
         }
-        Verdict::Unlawful { place } => {
-            let text = Items::new(unlawful_text(alloc, bytes, log, place, evidence)?);
-            Ok(Ok(Answer { text, status: 1 }))
+        Judgement::Lost { place, evidence } => {
+            let text = unlawful_text(alloc, bytes, log, *place, evidence)?;
+            Ok(Ok(unlawful(text)))
         }
-        Verdict::TooMany { place } => {
-            let line = line_of(place)?;
+        Judgement::Limited { place, limit } => {
+            let text = limited_text(alloc, bytes, log, *place, *limit)?;
+            Ok(Ok(unlawful(text)))
+        }
+        Judgement::TooMany { place } => {
+            let line = line_of(*place)?;
             Ok(Err(Fault::Undecided { line }))
         }
+    }
+}
+
+fn unlawful(text: Vec<u8>) -> Answer
+    ensures { result ≡ record { text = text.items; status = 1 } }
+{
+    Answer {
+        text: Items::new(text),
+        status: 1,
     }
 }

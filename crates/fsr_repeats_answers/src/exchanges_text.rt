@@ -1,7 +1,8 @@
 //! All that is printed of a log whose records repeat.
 ghost use Rattle.std.specs.Prelude.{◌≡◌, ◌++◌, IfOk, OnOk};
 ghost use Rattle.fsr_repeats_answers.specs.ExchangesText.{begin_of, counts_text, end_of, lawful_text, ops_text};
-ghost use Rattle.fsr_repeats_answers.specs.ExchangesText.{shown_text, unlawful_text, unsourced_text};
+ghost use Rattle.fsr_repeats_answers.specs.ExchangesText.{limited_text, shown_text, unlawful_text, unsourced_text};
+ghost use Rattle.print_reasons.specs.Limited.{limited_lines};
 ghost use Rattle.print_reasons.specs.Together.{together_text};
 
 use crate::evidence::Evidence;
@@ -9,7 +10,9 @@ use exchanges_log::ExchangesLog;
 use object_core::Operation;
 use object_sources::Unsourced;
 use object_window::Window;
-use print_reasons::{early_lines, lost_text, push_count, push_end, together_text, unwritten_lines};
+use print_reasons::{
+    early_lines, limited_lines, lost_text, push_count, push_end, together_text, unwritten_lines,
+};
 use std::alloc::{AllocError, Global};
 
 pub(crate) fn lawful_text(alloc: Global, log: &ExchangesLog) -> Result<Vec<u8>, AllocError>
@@ -33,6 +36,35 @@ pub(crate) fn unlawful_text(
     let mut text = shown_text(alloc, bytes, log, place, evidence)?;
     push_counts(&mut text, log)?;
     Ok(text)
+}
+
+/// That the log is lost by this limit, and the counts.
+pub(crate) fn limited_text(
+    alloc: Global,
+    bytes: &[u8],
+    log: &ExchangesLog,
+    place: usize,
+    limit: u64,
+) -> Result<Vec<u8>, AllocError>
+    ensures { IfOk result (λ text. text.items ≡ limited_text bytes.now log.now place limit) }
+{
+    let mut text = lost_by_limit(alloc, bytes, log, place, limit)?;
+    push_counts(&mut text, log)?;
+    Ok(text)
+}
+
+fn lost_by_limit(
+    alloc: Global,
+    bytes: &[u8],
+    log: &ExchangesLog,
+    place: usize,
+    limit: u64,
+) -> Result<Vec<u8>, AllocError>
+    ensures { IfOk result (λ text. text.items
+        ≡ limited_lines bytes.now place (end_of log.now.ops.items place) limit) }
+{
+    let ops = log.ops.as_slice();
+    limited_lines(alloc, bytes, place, end_of(ops, place), limit)
 }
 
 /// What shows that the log is lost, or else the line at whose end it is.

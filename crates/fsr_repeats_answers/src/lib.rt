@@ -4,7 +4,9 @@
 mod evidence;
 mod exchanges;
 mod exchanges_text;
+mod judgement;
 pub mod laws;
 
 pub use evidence::Evidence;
 pub use exchanges::order_exchanges;
+pub use judgement::Judgement;

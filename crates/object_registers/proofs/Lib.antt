@@ -1,3 +1,4 @@
 -- The laws.
 pub mod Effects
+pub mod Limits
 pub mod Turns

@@ -9,7 +9,7 @@ use Rattle.history_core.specs.Orders.{times_of}
 use Rattle.object_core.specs.declared.operation.Operation.{Operation}
 use Rattle.object_core.specs.Logs.{CanMake, IsLinearizable, is_due, KeepsPrecedence, MayStand, Precedes}
 use Rattle.object_registers.specs.declared.exchanging.Exchange.{Exchange}
-use Rattle.object_registers.specs.declared.exchanging.Exchange.TheVariants.{Sets, Gets, Swaps, Misses, Finds, Tries}
+use Rattle.object_registers.specs.declared.exchanging.Exchange.TheVariants.{Sets, Gets, Swaps, Misses, Finds, Tries, Refuses}
 use Rattle.object_registers.specs.declared.exchanging.Exchanging.{Exchanging}
 use Rattle.object_registers.specs.declared.limited.Access.{Access}
 use Rattle.object_registers.specs.declared.limited.Access.TheVariants.{Writes, Reads, IsRefused}
@@ -195,15 +195,19 @@ refused_two opening log p value o lawful at due is many =
 equal_held : (m n : ℕ) → nat_eq m n ≡ true → m ≡ n
 equal_held m n e = grind (arith, nat_tests)
 
--- what leaves a record where another one was
-made : (s t : Exchanging) (value : ℕ) (what : Exchange) → exchanging_after s what ≡ Some t → s.held ≢ value → t.held ≡ value →
-    Makes value what
-made s t value (Sets to) e ne is = ap (λ (z : Exchanging). z.held) (same_Some (record { held = to }) t e) ∙ is
-made s t value (Gets seen) e ne is = by_test (nat_eq s.held seen) e
+-- what looks at a record leaves it
+only_looks : (s t : Exchanging) (value seen : ℕ) → cond (nat_eq s.held seen) (Some s) None ≡ Some t → s.held ≢ value → t.held ≡ value → ⊥
+only_looks s t value seen e ne is = by_test (nat_eq s.held seen) e
   where
     by_test : (b : Bool) → cond b (Some s) None ≡ Some t → ⊥
     by_test true f = ne (ap (λ (z : Exchanging). z.held) (same_Some s t f) ∙ is)
     by_test false f = cc
+
+-- what leaves a record where another one was
+made : (s t : Exchanging) (value : ℕ) (what : Exchange) → exchanging_after s what ≡ Some t → s.held ≢ value → t.held ≡ value →
+    Makes value what
+made s t value (Sets to) e ne is = ap (λ (z : Exchanging). z.held) (same_Some (record { held = to }) t e) ∙ is
+made s t value (Gets seen) e ne is = only_looks s t value seen e ne is
 made s t value (Swaps from to) e ne is = by_test (nat_eq s.held from) refl e
   where
     by_test : (b : Bool) → nat_eq s.held from ≡ b → cond b (Some (record { held = to })) None ≡ Some t → (to ≡ value) × (from ≢ value)
@@ -230,16 +234,21 @@ made s t value (Tries from to) e ne is = by_test (nat_eq s.held from) refl e
       λ h. ne (equal_held s.held from g ∙ h),
     )
     by_test false g f = absurd (ne (ap (λ (z : Exchanging). z.held) (same_Some s t f) ∙ is))
+made s t value (Refuses seen) e ne is = only_looks s t value seen e ne is
 
 -- whoever found a record finds it held
-finds : (s t : Exchanging) (value : ℕ) (what : Exchange) → found_by what ≡ Some value → exchanging_after s what ≡ Some t →
+found_held : (s t : Exchanging) (value seen : ℕ) → Some seen ≡ Some value → cond (nat_eq s.held seen) (Some s) None ≡ Some t →
     nat_eq s.held value ≡ true
-finds s t value (Sets to) is e = cc
-finds s t value (Gets seen) is e = by_test (nat_eq s.held seen) refl e
+found_held s t value seen is e = by_test (nat_eq s.held seen) refl e
   where
     by_test : (b : Bool) → nat_eq s.held seen ≡ b → cond b (Some s) None ≡ Some t → nat_eq s.held value ≡ true
     by_test true h f = ap (λ z. nat_eq s.held z) (sym (same_Some seen value is)) ∙ h
     by_test false h f = cc
+
+finds : (s t : Exchanging) (value : ℕ) (what : Exchange) → found_by what ≡ Some value → exchanging_after s what ≡ Some t →
+    nat_eq s.held value ≡ true
+finds s t value (Sets to) is e = cc
+finds s t value (Gets seen) is e = found_held s t value seen is e
 finds s t value (Swaps from to) is e = by_test (nat_eq s.held from) refl e
   where
     by_test : (b : Bool) → nat_eq s.held from ≡ b → cond b (Some (record { held = to })) None ≡ Some t → nat_eq s.held value ≡ true
@@ -252,6 +261,7 @@ finds s t value (Finds from found) is e = by_tests (nat_eq s.held found) (not (n
     by_tests true b h f = ap (λ z. nat_eq s.held z) (sym (same_Some found value is)) ∙ h
     by_tests false b h f = cc
 finds s t value (Tries from to) is e = cc
+finds s t value (Refuses seen) is e = found_held s t value seen is e
 
 pub found_made : (opening : Exchanging) (log : List (Operation Exchange)) (p value : ℕ) (o : Operation Exchange) →
     IsLinearizable exchanging_after opening log → slice_get log p ≡ Some o → is_due o ≡ true → found_by o.what ≡ Some value →

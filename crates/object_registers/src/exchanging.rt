@@ -3,7 +3,7 @@ ghost use Rattle.object_registers.specs.Registers.{exchanging_after};
 
 use object_core::Object;
 
-/// A register with compare-and-set.
+/// A register with compare-and-set, which may refuse any write.
 #[derive(Clone, Copy, Debug, PartialEq, Eq)]
 pub struct Exchanging {
     pub held: u64,
@@ -24,6 +24,8 @@ pub enum Exchange {
     Finds(u64, u64),
     /// A compare-and-set from the first record to the second; whether it did it isn't known.
     Tries(u64, u64),
+    /// A write that was refused, and saw this record.
+    Refuses(u64),
 }
 
 impl Object for Exchanging {
@@ -53,6 +55,7 @@ impl Object for Exchanging {
             } else {
                 self
             }),
+            Exchange::Refuses(value) => if self.held == value { Some(self) } else { None },
         }
     }
 

@@ -61,6 +61,7 @@ fn found_by(what: Exchange) -> Option<u64>
         Exchange::Gets(seen) => Some(seen),
         Exchange::Swaps(from, _) => Some(from),
         Exchange::Finds(_, found) => Some(found),
+        Exchange::Refuses(seen) => Some(seen),
         Exchange::Sets(_) => None,
         Exchange::Misses(_) => None,
         Exchange::Tries(_, _) => None,
@@ -160,5 +161,6 @@ fn makes(value: u64, what: Exchange) -> bool
         Exchange::Gets(_) => false,
         Exchange::Misses(_) => false,
         Exchange::Finds(_, _) => false,
+        Exchange::Refuses(_) => false,
     }
 }

@@ -7,7 +7,7 @@ use Rattle.std.proofs.lemmas.Option.{same_Some}
 use Rattle.object_core.specs.declared.operation.Operation.{Operation}
 use Rattle.object_core.specs.Logs.{CanMake, IsLawfulOrder}
 use Rattle.object_registers.specs.declared.exchanging.Exchange.{Exchange}
-use Rattle.object_registers.specs.declared.exchanging.Exchange.TheVariants.{Sets, Gets, Swaps, Misses, Finds, Tries}
+use Rattle.object_registers.specs.declared.exchanging.Exchange.TheVariants.{Sets, Gets, Swaps, Misses, Finds, Tries, Refuses}
 use Rattle.object_registers.specs.declared.exchanging.Exchanging.{Exchanging}
 use Rattle.object_registers.specs.Registers.{exchanging_after, Makes}
 use Rattle.object_window.specs.Losses.{asked_of, holding, IsUnasked}
@@ -49,6 +49,7 @@ stays_or_makes x (Tries from to) t e = by_test (nat_eq x.held from) refl e
     by_test : (b : Bool) → nat_eq x.held from ≡ b → Some (cond b (holding to) x) ≡ Some t → (t ≡ x) ⊎ Makes t.held (Tries from to)
     by_test true g f = puts x from to t g (same_Some (holding to) t f)
     by_test false g f = inl (sym (same_Some x t f))
+stays_or_makes x (Refuses seen) t e = inl (sym (has_held (nat_eq x.held seen) x t e).1)
 
 -- the other register goes on like this one, where something looks at what this one holds
 module _ (little : List (Operation Exchange)) where
@@ -105,6 +106,9 @@ module _ (little : List (Operation Exchange)) where
                     let Q : Exchanging → Type 0 = λ z. exchanging_after z (Tries from to) ≡ Some t in
                     sym (same_Some (cond (nat_eq y.held from) (holding to) y) t (subst Q same f)),
               )
+      by_what (Refuses seen) f looked =
+          let h = has_held (nat_eq x.held seen) x t f in
+          as_well x y (Refuses seen) t f (looked (sym (same_if x.held seen h.0)))
 
 -- two registers, where no operation asks for what they hold
 module _ (log : List (Operation Exchange)) where
@@ -143,6 +147,8 @@ module _ (log : List (Operation Exchange)) where
           let n : nat_eq y.held from ≡ false = differ y.held from (λ s. ny (ap Some (sym s))) in
           let g : Some x ≡ Some t = sym (ap (λ b. Some (cond b (holding to) x)) m) ∙ f in
           stays (Tries from to) (ap (λ b. Some (cond b (holding to) y)) n) (same_Some x t g)
+      by_what (Refuses seen) f nx ny =
+          let h = has_held (nat_eq x.held seen) x t f in absurd (nx (ap Some (sym (same_if x.held seen h.0))))
 
   made : (x y : Exchanging) (order : List ℕ) → AreUnasked x y → CanMake exchanging_after log x order →
       CanMake exchanging_after log y order

@@ -5,6 +5,7 @@ use Rattle.object_core.specs.declared.operation.Operation.{Operation}
 use Rattle.object_registers.specs.Registers.{exchanging_after}
 use Rattle.object_registers.specs.declared.exchanging.Exchange.{Exchange}
 use Rattle.object_registers.specs.declared.exchanging.Exchange.TheVariants.{Sets, Gets, Swaps, Misses, Finds, Tries}
+use Rattle.object_registers.specs.declared.exchanging.Exchange.TheVariants.{Refuses}
 use Rattle.object_registers.specs.declared.exchanging.Exchanging.{Exchanging}
 use Rattle.object_sweep.specs.Reached.{AreTooMany}
 use Rattle.object_window.specs.Windows.{IsLostAnywhere}
@@ -22,6 +23,7 @@ asked_of (Swaps from to) = Some from
 asked_of (Misses from) = Some from
 asked_of (Finds from found) = Some found
 asked_of (Tries from to) = Some from
+asked_of (Refuses seen) = Some seen
 
 -- no operation of the log asks for this record
 abbrev pub IsUnasked : List (Operation Exchange) → ℕ → Type 0

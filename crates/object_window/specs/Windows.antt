@@ -7,6 +7,7 @@ use Rattle.object_core.specs.declared.operation.Operation.{Operation}
 use Rattle.object_registers.specs.Registers.{exchanging_after, Makes}
 use Rattle.object_registers.specs.declared.exchanging.Exchange.{Exchange}
 use Rattle.object_registers.specs.declared.exchanging.Exchange.TheVariants.{Sets, Gets, Swaps, Misses, Finds, Tries}
+use Rattle.object_registers.specs.declared.exchanging.Exchange.TheVariants.{Refuses}
 use Rattle.object_registers.specs.declared.exchanging.Exchanging.{Exchanging}
 use Rattle.object_sweep.specs.Reached.{is_in}
 
@@ -45,6 +46,7 @@ LooksAt value (Swaps from to) = from ≡ value
 LooksAt value (Misses from) = Unit
 LooksAt value (Finds from found) = found ≡ value
 LooksAt value (Tries from to) = from ≡ value
+LooksAt value (Refuses seen) = seen ≡ value
 
 -- no operation of the log looks at what this one leaves
 abbrev pub IsUnseen : List (Operation Exchange) → Exchange → Type 0

@@ -131,6 +131,7 @@ fn asked(what: Exchange) -> Option<u64>
         Exchange::Misses(from) => Some(from),
         Exchange::Finds(_, found) => Some(found),
         Exchange::Tries(from, _) => Some(from),
+        Exchange::Refuses(seen) => Some(seen),
     }
 }
 

@@ -203,6 +203,7 @@ fn looks_at(value: u64, what: Exchange) -> bool
         Exchange::Misses(_) => true,
         Exchange::Finds(_, found) => found == value,
         Exchange::Tries(from, _) => from == value,
+        Exchange::Refuses(seen) => seen == value,
     }
 }
 

@@ -1,5 +1,6 @@
 pub mod Counts
 pub mod KeptAt
+pub mod Limited
 pub mod Lost
 pub mod Named
 pub mod Sentences

@@ -3,6 +3,7 @@
 #![tactic(auto)]
 
 mod counts;
+mod limited;
 mod lost;
 mod named;
 mod sentence;
@@ -11,6 +12,7 @@ mod together;
 mod unsourced;
 
 pub use counts::{are_few, push_count, push_end, push_little};
+pub use limited::limited_lines;
 pub use lost::lost_text;
 pub use named::{in_kept, is_named, places_of};
 pub use sentence::{push_u64, push_words};

@@ -1,5 +1,5 @@
 -- An operation that a line says runs forwards: that is asked of the line.
-use Rattle.std.proofs.Common.{◌≡◌, ℕ, ◌≤◌, Bool, true, false, List, refl, ap, sym, subst, arith, true≢false, [], ◌∷◌}
+use Rattle.std.proofs.Common.{◌≡◌, ℕ, ◌≤◌, ◌∙◌, Bool, true, false, List, refl, ap, sym, subst, arith, true≢false, [], ◌∷◌}
 use Rattle.std.proofs.Common.{Option, Some, None, Result, Ok, Err, codes}
 use Rattle.std.specs.Prelude.{⊤, if◌then◌else◌, nat_le}
 use Rattle.std.proofs.lemmas.Bool.Decides.{nat_tests}
@@ -14,8 +14,8 @@ use Rattle.read_document.specs.declared.key.Key.TheVariants as key
 use Rattle.read_document.specs.Refusals.{◌>>=◌, field, must, required, some_or}
 use Rattle.read_document.specs.Values.{as_whole, optional}
 use Rattle.read_line.specs.Lines.{done_in, ends_later, key_in, record_in}
-use Rattle.read_exchange.specs.Exchanges.{asked_in, done, effect_of, entry_in, entry_of, entry_with, ExchangeEntry}
-use Rattle.read_exchange.specs.Exchanges.{KeyedExchange, operation, form_in, operation_in, refused, SaidEffect}
+use Rattle.read_exchange.specs.Exchanges.{asked_in, done, effect_of, entry_in, entry_of, ExchangeEntry}
+use Rattle.read_exchange.specs.Exchanges.{KeyedExchange, operation, form_in, operation_in}
 
 abbrev pub ok_or : {A E : Type 0} → A → Result A E → A
 ok_or x (Ok y) = y
@@ -40,24 +40,16 @@ asked false w x e = false-true (ap is_right e)
 
 abbrev operation_or : KeyedExchange → ExchangeEntry → KeyedExchange
 operation_or d (operation o) = o
-operation_or d (refused which) = d
 operation_or d (done ops) = d
 
 abbrev is_operation : ExchangeEntry → Bool
 is_operation (operation o) = true
-is_operation (refused which) = false
 is_operation (done ops) = false
 
 abbrev RunsForwards : {W : Type 0} → Operation W → Type 0
 RunsForwards o = ends_later o.starts o.ends ≡ true
 
-entry_forwards : (which : Option (List ℕ)) (begin : ℕ) (ends : Option ℕ) (effect : Option SaidEffect) (o : KeyedExchange) →
-    ends_later begin ends ≡ true → entry_with which begin ends effect ≡ operation o → RunsForwards o.op
-entry_forwards which begin ends None o later e = false-true (ap is_operation e)
-entry_forwards which begin ends (Some effect) o later e =
-    let same = ap (operation_or o) e in subst (λ (k : KeyedExchange). RunsForwards k.op) same later
-
-operation_forwards : (d : Data) (o : KeyedExchange) → operation_in d ≡ Ok (operation o) → RunsForwards o.op
+operation_forwards : (d : Data) (o : KeyedExchange) → operation_in d ≡ Ok o → RunsForwards o.op
 unfolding operation_in
 operation_forwards d o e =
     let there = bound (required (key.Who ∷ key.Kind ∷ key.Begin ∷ key.End ∷ key.Record ∷ []) d) _ _ e in
@@ -70,13 +62,17 @@ operation_forwards d o e =
     let what = bound (asked_in form.0 d) _ _ which.2 in
     let later = bound (must (ends_later begin.0 ends.0) (Law key.End)) _ _ what.2 in
     let effect = bound (effect_of what.0 ends.0 item.0) _ _ later.2 in
-    entry_forwards which.0 begin.0 ends.0 effect.0 o (asked (ends_later begin.0 ends.0) _ later.0 later.1)
-    (ap (ok_or (operation o)) effect.2)
+    let same = ap (ok_or o) effect.2 in
+    subst (λ (k : KeyedExchange). RunsForwards k.op) same (asked (ends_later begin.0 ends.0) _ later.0 later.1)
 
 by_kind : (b : Bool) (d : Data) (o : KeyedExchange) →
-    (if b then (done_in d >>= (λ ops. Ok (done ops))) else operation_in d) ≡ Ok (operation o) → RunsForwards o.op
+    (if b then (done_in d >>= (λ ops. Ok (done ops))) else (operation_in d >>= (λ op. Ok (operation op)))) ≡ Ok (operation o) →
+    RunsForwards o.op
 by_kind true d o e = let ops = bound (done_in d) _ _ e in false-true (ap is_operation (ap (ok_or (operation o)) ops.2))
-by_kind false d o e = operation_forwards d o e
+by_kind false d o e =
+    let op = bound (operation_in d) _ _ e in
+    let same : op.0 ≡ o = ap (operation_or o) (ap (ok_or (operation o)) op.2) in
+    operation_forwards d o (op.1 ∙ ap Ok same)
 
 line_forwards : (line : List ℕ) (o : KeyedExchange) → entry_of line ≡ Ok (operation o) → RunsForwards o.op
 unfolding entry_of entry_in

@@ -21,7 +21,7 @@ use Rattle.read_exchange.specs.declared.line.ExchangeLine.{ExchangeLine}
 use Rattle.read_exchange.specs.declared.line.ExchangeLine.TheVariants as line
 use Rattle.read_exchange.specs.declared.line.ExchangeOp.{ExchangeOp}
 use Rattle.read_exchange.specs.declared.line.TextExchange.{TextExchange}
-use Rattle.read_exchange.specs.declared.line.TextExchange.TheVariants.{Sets, Gets, Swaps, Misses, Finds, Tries}
+use Rattle.read_exchange.specs.declared.line.TextExchange.TheVariants.{Sets, Gets, Swaps, Misses, Finds, Tries, Refuses}
 
 -- ---- what a line says
 
@@ -33,16 +33,26 @@ pub data SaidExchange : Type 0 where
   misses : (from to : List ℕ) → SaidExchange
   finds : (from to found : List ℕ) → SaidExchange
   tries : (from to : List ℕ) → SaidExchange
+  refuses : (text : List ℕ) → SaidExchange
+
+-- a write was refused
+abbrev pub is_refusal : SaidExchange → Bool
+is_refusal (sets text) = false
+is_refusal (gets text) = false
+is_refusal (swaps from to) = false
+is_refusal (misses from to) = false
+is_refusal (finds from to found) = false
+is_refusal (tries from to) = false
+is_refusal (refuses text) = true
 
 -- an operation, and its key if it has one
 pub record KeyedExchange : Type 0 where
   pub key : Option (List ℕ)
   pub op : Operation SaidExchange
 
--- an operation, a refused write by its key, or how many operations there are
+-- an operation, or how many there are
 pub data ExchangeEntry : Type 0 where
   operation : KeyedExchange → ExchangeEntry
-  refused : Option (List ℕ) → ExchangeEntry
   done : ℕ → ExchangeEntry
 
 -- the same of what was read
@@ -53,6 +63,7 @@ what_seen (Swaps from to) = swaps (string_bytes from) (string_bytes to)
 what_seen (Misses from to) = misses (string_bytes from) (string_bytes to)
 what_seen (Finds from to found) = finds (string_bytes from) (string_bytes to) (string_bytes found)
 what_seen (Tries from to) = tries (string_bytes from) (string_bytes to)
+what_seen (Refuses text) = refuses (string_bytes text)
 
 abbrev pub exchange_seen : ExchangeOp → Operation SaidExchange
 exchange_seen o = record { starts = o.begin; ends = o.end; maybe = o.maybe; what = what_seen o.what }
@@ -62,7 +73,6 @@ keyed_seen o = record { key = option_map string_bytes o.key; op = exchange_seen 
 
 abbrev pub line_seen : ExchangeLine → ExchangeEntry
 line_seen (line.Operation o) = operation (keyed_seen o)
-line_seen (line.Refused key) = refused (option_map string_bytes key)
 line_seen (line.Done ops) = done ops
 
 -- ---- how it is read
@@ -134,25 +144,18 @@ compared c ends item = do
   other ← must (may_find c.swapped c.from c.found) (Law key.Found)
   Ok (record { maybe = is_none c.swapped; what = exchanged c.swapped c.from to c.found })
 
--- only a read that is unfinished may have no record; a refused write has no effect
-abbrev pub effect_of : Asked → Option ℕ → Option (List ℕ) → Result (Option SaidEffect) DocError
+-- only a read that is unfinished may have no record
+abbrev pub effect_of : Asked → Option ℕ → Option (List ℕ) → Result SaidEffect DocError
 effect_of (writes maybe) ends item =
-    some_or (Law key.Record) item >>= (λ text. Ok (Some (record { maybe = maybe; what = sets text })))
+    some_or (Law key.Record) item >>= (λ text. Ok (record { maybe = maybe; what = sets text }))
 effect_of reads ends item =
     must (is_some item || is_none ends) (Law key.Record)
-    >>= (λ may. Ok (Some (record { maybe = false; what = gets item })))
-effect_of is_refused ends item = some_or (Law key.Record) item >>= (λ text. Ok None)
-effect_of (compares c) ends item = compared c ends item >>= (λ effect. Ok (Some effect))
+    >>= (λ may. Ok (record { maybe = false; what = gets item }))
+effect_of is_refused ends item =
+    some_or (Law key.Record) item >>= (λ text. Ok (record { maybe = false; what = refuses text }))
+effect_of (compares c) ends item = compared c ends item
 
-abbrev pub entry_with : Option (List ℕ) → ℕ → Option ℕ → Option SaidEffect → ExchangeEntry
-entry_with which begin ends None = refused which
-entry_with which begin ends (Some effect) =
-    operation (record {
-      key = which;
-      op = record { starts = begin; ends = ends; maybe = effect.maybe; what = effect.what };
-    })
-
-unfoldable pub operation_in : Data → Result ExchangeEntry DocError
+unfoldable pub operation_in : Data → Result KeyedExchange DocError
 operation_in d = do
   all_there ← required (key.Who ∷ key.Kind ∷ key.Begin ∷ key.End ∷ key.Record ∷ []) d
   who ← field key.Who as_whole d
@@ -164,12 +167,14 @@ operation_in d = do
   asked ← asked_in form d
   in_order ← must (ends_later begin ends) (Law key.End)
   effect ← effect_of asked ends item
-  Ok (entry_with which begin ends effect)
+  Ok (record { key = which; op = record { starts = begin; ends = ends; maybe = effect.maybe; what = effect.what } })
 
 unfoldable pub entry_in : Data → Result ExchangeEntry DocError
 entry_in d = if is_kind (codes "done") d then (do
   ops ← done_in d
-  Ok (done ops)) else operation_in d
+  Ok (done ops)) else (do
+    op ← operation_in d
+    Ok (operation op))
 
 -- what a line says, or its first refusal
 unfoldable pub entry_of : List ℕ → Result ExchangeEntry DocError

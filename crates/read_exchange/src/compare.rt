@@ -7,7 +7,7 @@ ghost use Rattle.read_document.specs.Refusals.{field, Gives, some_or};
 ghost use Rattle.read_document.specs.Values.{optional};
 ghost use Rattle.read_line.specs.Records.{record_text};
 ghost use Rattle.read_exchange.specs.Exchanges.{asked_in, compared, comparison_in, effect_of, exchanged, may_find};
-ghost use Rattle.read_exchange.specs.Exchanges.{reads, what_seen, writes};
+ghost use Rattle.read_exchange.specs.Exchanges.{is_refused, reads, what_seen, writes};
 ghost use Rattle.read_exchange.specs.inner.Seen.{asked_seen, comparison_seen, effect_seen};
 
 use crate::form::Form;
@@ -110,25 +110,19 @@ fn optional_bool(value: Option<&Value>) -> Option<Option<bool>>
     }
 }
 
-/// What an operation did that ended so, with this record; none of a refused write.
+/// What an operation did that ended so, with this record.
 pub(crate) fn effect_of(
     asked: AskedOf,
     end: Option<u64>,
     item: Option<String>,
-) -> Result<Option<Effect>, DocError>
-    ensures { Gives (option_map effect_seen) result (effect_of (asked_seen asked) end (option_map string_bytes item)) }
+) -> Result<Effect, DocError>
+    ensures { Gives effect_seen result (effect_of (asked_seen asked) end (option_map string_bytes item)) }
 {
     match asked {
         AskedOf::Writes { maybe } => write_of(maybe, item),
         AskedOf::Reads => read_of(end, item),
-        AskedOf::Refused => {
-            recorded(item)?;
-            Ok(None)
-        }
-        AskedOf::Compares(with) => {
-            let effect = effect_with(with, end, item)?;
-            Ok(Some(effect))
-        }
+        AskedOf::Refused => refused_of(item),
+        AskedOf::Compares(with) => effect_with(with, end, item),
     }
 }
 
@@ -142,24 +136,35 @@ fn recorded(item: Option<String>) -> Result<String, DocError>
     }
 }
 
-fn write_of(maybe: bool, item: Option<String>) -> Result<Option<Effect>, DocError>
-    ensures { Gives (option_map effect_seen) result (effect_of (writes maybe) None (option_map string_bytes item)) }
+fn write_of(maybe: bool, item: Option<String>) -> Result<Effect, DocError>
+    ensures { Gives effect_seen result (effect_of (writes maybe) None (option_map string_bytes item)) }
 {
     let text = recorded(item)?;
-    Ok(Some(Effect {
+    Ok(Effect {
         maybe,
         what: TextExchange::Sets(text),
-    }))
+    })
 }
 
-fn read_of(end: Option<u64>, item: Option<String>) -> Result<Option<Effect>, DocError>
-    ensures { Gives (option_map effect_seen) result (effect_of reads end (option_map string_bytes item)) }
+fn read_of(end: Option<u64>, item: Option<String>) -> Result<Effect, DocError>
+    ensures { Gives effect_seen result (effect_of reads end (option_map string_bytes item)) }
 {
     must(item.is_some() || end.is_none(), DocError::Law(Key::Record))?;
-    Ok(Some(Effect {
+    Ok(Effect {
         maybe: false,
         what: TextExchange::Gets(item),
-    }))
+    })
+}
+
+/// A refused write tells the record that it saw, also an unfinished one.
+fn refused_of(item: Option<String>) -> Result<Effect, DocError>
+    ensures { Gives effect_seen result (effect_of is_refused None (option_map string_bytes item)) }
+{
+    let text = recorded(item)?;
+    Ok(Effect {
+        maybe: false,
+        what: TextExchange::Refuses(text),
+    })
 }
 
 #[tactic(auto, unfolding(crate::specs::Exchanges::compared))]

@@ -8,7 +8,9 @@ mod header;
 pub mod laws;
 mod line;
 mod operation;
+mod refusal;
 
 pub use header::read_exchange_header;
 pub use line::{ExchangeLine, ExchangeOp, TextExchange};
 pub use operation::{exchange_in, read_exchange};
+pub use refusal::is_refusal;

@@ -26,6 +26,8 @@ pub enum TextExchange {
         from: String,
         to: String,
     },
+    /// A write that was refused, and saw this record.
+    Refuses(String),
 }
 
 /// An operation as its line has it.
@@ -45,8 +47,6 @@ pub struct ExchangeOp {
 #[derive(Drop)]
 pub enum ExchangeLine {
     Operation(ExchangeOp),
-    /// A refused write, with its key. A log whose records repeat has none.
-    Refused(Option<String>),
     /// The end of the log, with the number of its operations.
     Done(usize),
 }

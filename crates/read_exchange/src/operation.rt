@@ -1,9 +1,7 @@
 //! The lines behind the header.
-ghost use Rattle.std.specs.Prelude.{◌≡◌, option_map, string_bytes};
 ghost use Rattle.serde_json.specs.View.{view};
 ghost use Rattle.read_document.specs.Refusals.{Gives};
-ghost use Rattle.read_exchange.specs.Exchanges.{entry_in, entry_of, entry_with, line_seen, operation_in};
-ghost use Rattle.read_exchange.specs.inner.Seen.{effect_seen};
+ghost use Rattle.read_exchange.specs.Exchanges.{entry_in, entry_of, keyed_seen, line_seen, operation_in};
 
 use crate::compare::{Effect, asked_in, effect_of};
 use crate::form::form_in;
@@ -33,13 +31,14 @@ pub fn exchange_in(alloc: Global, value: &Value) -> Result<ExchangeLine, DocErro
         let ops = done_in(value)?;
         Ok(ExchangeLine::Done(ops))
     } else {
-        operation_in(alloc, value)
+        let op = operation_in(alloc, value)?;
+        Ok(ExchangeLine::Operation(op))
     }
 }
 
 #[tactic(auto, unfolding(crate::specs::Exchanges::operation_in))]
-fn operation_in(alloc: Global, value: &Value) -> Result<ExchangeLine, DocError>
-    ensures { Gives line_seen result (operation_in (view value.now)) }
+fn operation_in(alloc: Global, value: &Value) -> Result<ExchangeOp, DocError>
+    ensures { Gives keyed_seen result (operation_in (view value.now)) }
 {
     required(
         value,
@@ -53,26 +52,12 @@ fn operation_in(alloc: Global, value: &Value) -> Result<ExchangeLine, DocError>
     let key = key_in(alloc, value)?;
     let asked = asked_in(alloc, form, value)?;
     must(ends_later(begin, end), DocError::Law(Key::End))?;
-    let effect = effect_of(asked, end, record)?;
-    Ok(line_with(key, begin, end, effect))
-}
-
-fn line_with(
-    key: Option<String>,
-    begin: u64,
-    end: Option<u64>,
-    effect: Option<Effect>,
-) -> ExchangeLine
-    ensures { line_seen result ≡ entry_with (option_map string_bytes key) begin end (option_map effect_seen effect) }
-{
-    match effect {
-        Some(Effect { maybe, what }) => ExchangeLine::Operation(ExchangeOp {
-            begin,
-            end,
-            maybe,
-            what,
-            key,
-        }),
-        None => ExchangeLine::Refused(key),
-    }
+    let Effect { maybe, what } = effect_of(asked, end, record)?;
+    Ok(ExchangeOp {
+        begin,
+        end,
+        maybe,
+        what,
+        key,
+    })
 }

@@ -11,6 +11,8 @@ const HEADER: &str = r#"{"kind":"lines","opening":0,"repeats":true}"#;
 /// A compare-and-set up to its end.
 const CAS: &str = r#"{"who":0,"kind":"cas","begin":1,"from":3,"record":5,"end":"#;
 
+const LIMITED: &str = r#"{"kind":"lines","opening":0,"repeats":true,"limit":2}"#;
+
 /// The log of one line.
 fn with_header(alloc: Global, line: &str) -> Result<String, AllocError> {
     format!(in alloc; "{HEADER}\n{line}\n")
@@ -140,6 +142,36 @@ fn compares(rt: HostRuntime) -> Result<(), Fail> {
     Ok(())
 }
 
+/// A refused write saw a record, which is numbered like any other. It stands only below a limit.
+#[test]
+fn refused_writes(rt: HostRuntime) -> Result<(), Fail> {
+    for (line, op) in [
+        (
+            r#"{"who":0,"kind":"refused","begin":1,"end":4,"record":5}"#,
+            done(Exchange::Refuses(1)),
+        ),
+        (
+            r#"{"who":0,"kind":"refused","begin":1,"end":4,"record":[0]}"#,
+            done(Exchange::Refuses(0)),
+        ),
+        (
+            r#"{"who":0,"kind":"refused","begin":1,"end":null,"record":5}"#,
+            unfinished(Exchange::Refuses(1)),
+        ),
+    ] {
+        let alloc = rt.alloc();
+        let text = format!(in alloc; "{LIMITED}\n{line}\n")?;
+        match read_exchanges(alloc, text.as_bytes()) {
+            Ok(log) => {
+                assert!(rt; log.ops.as_slice() == [op].as_slice(), "{line}");
+                assert_eq!(rt; log.limit, Some(2));
+            }
+            Err(fault) => assert!(rt; false, "{line}: {fault}"),
+        }
+    }
+    Ok(())
+}
+
 /// Whether this is told of the text as a log.
 fn is_told(alloc: Global, text: &str, told: &str) -> Result<bool, AllocError> {
     match read_exchanges(alloc, text.as_bytes()) {
@@ -206,6 +238,10 @@ const REFUSED: &[(&str, &str)] = &[
         r#"{"who":0,"kind":"refused","begin":1,"end":4,"record":0}"#,
         "line 2: missing limit",
     ),
+    (
+        r#"{"who":0,"kind":"refused","begin":1,"end":null,"record":null}"#,
+        "line 2: law of record",
+    ),
     (r#"{"kind":"done","ops":1}"#, "line 2: law of ops"),
 ];
 
@@ -222,10 +258,6 @@ const HEADERS: &[(&str, &str)] = &[
     (
         r#"{"kind":"lines","opening":{},"repeats":true,"limit":1}"#,
         "line 1: shape of opening",
-    ),
-    (
-        r#"{"kind":"lines","opening":0,"repeats":true,"limit":1}"#,
-        "line 1: law of limit",
     ),
     (
         r#"{"kind":"lines","opening":0,"repeats":true,"limit":"1"}"#,

@@ -2,7 +2,7 @@
 
 use crate::{Lock, Turn};
 use object_core::Object;
-use object_registers::{Access, Exchange, Exchanging, Limited};
+use object_registers::{Access, Exchange, Exchanging, Limited, LimitedExchanging};
 
 /// The state after all of these operations.
 fn after_all<O: Object>(opening: O, done: &[O::What]) -> Option<O> {
@@ -72,6 +72,8 @@ fn exchanging_rows(rt: HostRuntime) {
         (&[Exchange::Finds(5, 5)][..], None),
         (&[Exchange::Tries(5, 6)][..], Some(6)),
         (&[Exchange::Tries(4, 6)][..], Some(5)),
+        (&[Exchange::Refuses(5)][..], Some(5)),
+        (&[Exchange::Refuses(6)][..], None),
         (
             &[Exchange::Sets(4), Exchange::Tries(4, 6), Exchange::Gets(6)][..],
             Some(6),
@@ -92,10 +94,80 @@ fn exchanging_rows(rt: HostRuntime) {
         (Exchange::Finds(5, 6), true),
         (Exchange::Tries(5, 6), false),
         (Exchange::Tries(6, 6), true),
+        (Exchange::Refuses(6), true),
     ] {
         assert_eq!(rt; Exchanging::is_pure(what), pure, "{what:?}");
     }
     assert!(rt; opening.is(opening) && !opening.is(Exchanging { held: 6 }));
+}
+
+/// A write and a compare-and-set that writes are taken at any time, and a refused write stands behind the limit's
+/// number of them.
+#[test]
+fn limited_exchanging_rows(rt: HostRuntime) {
+    let opening = LimitedExchanging { held: 5, due: 2 };
+    for (done, wanted) in [
+        (&[][..], Some((5, 2))),
+        (&[Exchange::Refuses(5)][..], None),
+        (&[Exchange::Gets(5)][..], Some((5, 2))),
+        (&[Exchange::Sets(6)][..], Some((6, 1))),
+        (&[Exchange::Swaps(5, 6)][..], Some((6, 1))),
+        (&[Exchange::Swaps(5, 5)][..], Some((5, 1))),
+        (&[Exchange::Swaps(4, 6)][..], None),
+        (&[Exchange::Misses(4)][..], Some((5, 2))),
+        (&[Exchange::Misses(5)][..], None),
+        (&[Exchange::Finds(4, 5)][..], Some((5, 2))),
+        (&[Exchange::Finds(5, 5)][..], None),
+        (&[Exchange::Tries(5, 6)][..], Some((6, 1))),
+        (&[Exchange::Tries(4, 6)][..], Some((5, 2))),
+        (&[Exchange::Sets(6), Exchange::Refuses(6)][..], None),
+        (
+            &[
+                Exchange::Sets(6),
+                Exchange::Swaps(6, 7),
+                Exchange::Refuses(7),
+            ][..],
+            Some((7, 0)),
+        ),
+        (
+            &[
+                Exchange::Sets(6),
+                Exchange::Swaps(6, 7),
+                Exchange::Refuses(6),
+            ][..],
+            None,
+        ),
+        (
+            &[Exchange::Sets(6), Exchange::Misses(7), Exchange::Refuses(6)][..],
+            None,
+        ),
+        (
+            &[Exchange::Sets(6), Exchange::Sets(7), Exchange::Sets(5)][..],
+            Some((5, 0)),
+        ),
+    ] {
+        let state = match wanted {
+            Some((held, due)) => Some(LimitedExchanging { held, due }),
+            None => None,
+        };
+        assert_eq!(rt; after_all(opening, done), state, "after {done:?}");
+    }
+    for (what, pure) in [
+        (Exchange::Sets(5), false),
+        (Exchange::Gets(5), true),
+        (Exchange::Swaps(5, 5), false),
+        (Exchange::Misses(5), true),
+        (Exchange::Finds(5, 6), true),
+        (Exchange::Tries(6, 6), false),
+        (Exchange::Refuses(6), true),
+    ] {
+        assert_eq!(rt; LimitedExchanging::is_pure(what), pure, "{what:?}");
+    }
+    assert!(rt;
+        opening.is(opening)
+            && !opening.is(LimitedExchanging { held: 5, due: 1 })
+            && !opening.is(LimitedExchanging { held: 6, due: 2 })
+    );
 }
 
 /// A lock has one holder, who lets it go.

@@ -2,7 +2,7 @@
 //! operations. One is STARTS,ENDS,MAYBE,KIND,FIRST,SECOND, with `-` for an end that it hasn't, and 0 or 1 for MAYBE.
 
 use object_core::{Object, Operation};
-use object_registers::{Access, Exchange, Exchanging, Limited};
+use object_registers::{Access, Exchange, Exchanging, Limited, LimitedExchanging};
 use object_sweep::{SweepError, Verdict, sweep};
 use std::alloc::{AllocError, AllocFailed, Global};
 
@@ -50,17 +50,28 @@ trait Worded: Object {
     fn what(kind: &str, first: u64, second: u64) -> Option<Self::What>;
 }
 
+fn exchange(kind: &str, first: u64, second: u64) -> Option<Exchange> {
+    Some(match kind {
+        "sets" => Exchange::Sets(first),
+        "gets" => Exchange::Gets(first),
+        "swaps" => Exchange::Swaps(first, second),
+        "misses" => Exchange::Misses(first),
+        "finds" => Exchange::Finds(first, second),
+        "tries" => Exchange::Tries(first, second),
+        "refuses" => Exchange::Refuses(first),
+        _ => return None,
+    })
+}
+
 impl Worded for Exchanging {
     fn what(kind: &str, first: u64, second: u64) -> Option<Exchange> {
-        Some(match kind {
-            "sets" => Exchange::Sets(first),
-            "gets" => Exchange::Gets(first),
-            "swaps" => Exchange::Swaps(first, second),
-            "misses" => Exchange::Misses(first),
-            "finds" => Exchange::Finds(first, second),
-            "tries" => Exchange::Tries(first, second),
-            _ => return None,
-        })
+        exchange(kind, first, second)
+    }
+}
+
+impl Worded for LimitedExchanging {
+    fn what(kind: &str, first: u64, second: u64) -> Option<Exchange> {
+        exchange(kind, first, second)
     }
 }
 
@@ -86,6 +97,13 @@ fn judge_words(alloc: Global, line: &str) -> Result<Verdict, Judged> {
         }
         ["limited", held, due, budget, ops @ ..] => {
             let opening = Limited {
+                held: number(held)?,
+                due: number(due)?,
+            };
+            judge_log(alloc, opening, budget, ops)
+        }
+        ["limited_exchanging", held, due, budget, ops @ ..] => {
+            let opening = LimitedExchanging {
                 held: number(held)?,
                 due: number(due)?,
             };

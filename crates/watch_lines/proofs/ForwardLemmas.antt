@@ -6,7 +6,7 @@ use Rattle.read_document.specs.declared.refusal.DocError.{DocError}
 use Rattle.read_document.specs.Document.{is_kind, value_of}
 use Rattle.read_document.specs.Refusals.{◌>>=◌, Gives}
 use Rattle.read_exchange.specs.Exchanges.{entry_in, entry_of, ExchangeEntry}
-use Rattle.read_exchange.specs.declared.line.ExchangeLine.TheVariants.{Operation, Refused, Done}
+use Rattle.read_exchange.specs.declared.line.ExchangeLine.TheVariants.{Operation, Done}
 use Rattle.read_exchange.proofs.ForwardLemmas.{bound, false-true, forwards, ok_or}
 use Rattle.watch_lines.specs.WatchEntries.{blank, floor, floor_in, is_blank, RunsForwards, said, watch_entry_in, watch_entry_of}
 use Rattle.watch_lines.specs.WatchEntries.{WatchEntry}
@@ -55,7 +55,6 @@ if_some (Some end) begin h = h end refl
 pub line_forwards : (bytes : List ℕ) (line : WatchLine) → watch_entry_of bytes ≡ Ok (watched_seen line) → RunsForwards line
 line_forwards bytes (Exchange (Operation o)) is =
     if_some o.end o.begin (λ end ends. forwards bytes _ end (said_there bytes _ is) ends)
-line_forwards bytes (Exchange (Refused key)) is = tt
 line_forwards bytes (Exchange (Done ops)) is = tt
 line_forwards bytes (Floor at) is = tt
 line_forwards bytes Blank is = tt

@@ -10,7 +10,7 @@ use Rattle.object_core.specs.declared.operation.Operation.{Operation}
 use Rattle.object_core.specs.Logs.{CanMake, IsLinearizable, IsListing, is_due, KeepsPrecedence, MayStand, NonePrecedes}
 use Rattle.object_core.specs.Logs.{Precedes}
 use Rattle.object_registers.specs.declared.exchanging.Exchange.{Exchange}
-use Rattle.object_registers.specs.declared.exchanging.Exchange.TheVariants.{Sets, Gets, Swaps, Misses, Finds, Tries}
+use Rattle.object_registers.specs.declared.exchanging.Exchange.TheVariants.{Sets, Gets, Swaps, Misses, Finds, Tries, Refuses}
 use Rattle.object_registers.specs.declared.exchanging.Exchanging.{Exchanging}
 use Rattle.object_registers.specs.Registers.{exchanging_after}
 use Rattle.object_sweep.specs.Rests.{RunForwards}
@@ -79,6 +79,8 @@ module _ (f : ℕ → ℕ) (single : (m n : ℕ) → f m ≡ f n → m ≡ n) wh
       let t : Exchanging = record { held = to } in
       ap (λ (b : Bool). Some (cond b (register_by f t) (register_by f s))) (same_test s.held from)
       ∙ by_choice (nat_eq s.held from) s t
+  step_by s (Refuses value) =
+      ap (λ (b : Bool). cond b (Some (register_by f s)) None) (same_test s.held value) ∙ by_test (nat_eq s.held value) s
 
   makes_by : (s t : LinedRegister) (what : Lined) → lined_after s what ≡ Some t →
       lined_after (state_by f s) (record { what = exchange_by f what.what; line = what.line }) ≡ Some (state_by f t)
@@ -158,6 +160,7 @@ module _ (f g : ℕ → ℕ) (there : (n : ℕ) → g (f n) ≡ n) where
   exchange_there (Misses from) = ap Misses (there from)
   exchange_there (Finds from found) = ap (λ (n : ℕ). Finds n (g (f found))) (there from) ∙ ap (Finds from) (there found)
   exchange_there (Tries from to) = ap (λ (n : ℕ). Tries n (g (f to))) (there from) ∙ ap (Tries from) (there to)
+  exchange_there (Refuses value) = ap Refuses (there value)
 
   pub op_there : (o : Operation Lined) → lined_by g (lined_by f o) ≡ o
   op_there o =
@@ -187,6 +190,7 @@ module _ (f g k : ℕ → ℕ) (through : (n : ℕ) → g (f n) ≡ k n) where
   exchange_through (Misses from) = ap Misses (through from)
   exchange_through (Finds from found) = ap (λ (n : ℕ). Finds n (g (f found))) (through from) ∙ ap (Finds (k from)) (through found)
   exchange_through (Tries from to) = ap (λ (n : ℕ). Tries n (g (f to))) (through from) ∙ ap (Tries (k from)) (through to)
+  exchange_through (Refuses value) = ap Refuses (through value)
 
   log_through : (log : List (Operation Lined)) → log_by g (log_by f log) ≡ log_by k log
   log_through [] = refl
@@ -212,6 +216,7 @@ module _ (f : ℕ → ℕ) where
       ap (λ (n : ℕ). Finds n (f found)) (h from (inl refl)) ∙ ap (Finds from) (h found (inr refl))
   exchange_fixed (Tries from to) h =
       ap (λ (n : ℕ). Tries n (f to)) (h from (inl refl)) ∙ ap (Tries from) (h to (inr refl))
+  exchange_fixed (Refuses value) h = ap Refuses (h value refl)
 
   op_fixed : (o : Operation Lined) → ((n : ℕ) → Names o.what.what n → f n ≡ n) → lined_by f o ≡ o
   op_fixed o h =
@@ -368,6 +373,11 @@ leaves s t (Tries from to) e = by_test (nat_eq s.held from) e
         (t.held ≡ s.held) ⊎ ((t.held ≡ from) ⊎ (t.held ≡ to))
     by_test true f = inr (inr (ap (λ (z : Exchanging). z.held) (sym (same_Some _ t f))))
     by_test false f = inl (ap (λ (z : Exchanging). z.held) (sym (same_Some s t f)))
+leaves s t (Refuses value) e = by_test (nat_eq s.held value) e
+  where
+    by_test : (b : Bool) → cond b (Some s) None ≡ Some t → (t.held ≡ s.held) ⊎ (t.held ≡ value)
+    by_test true f = inl (ap (λ (z : Exchanging). z.held) (sym (same_Some s t f)))
+    by_test false f = absurd (none-some t f)
 
 -- what is so of each record that is held
 module _ (Is : ℕ → Type 0) (held : List (Remainder LinedRegister Lined)) (all : (n : ℕ) → IsHeldRecord held n → Is n) where

@@ -3,7 +3,7 @@ use Rattle.std.proofs.Common.{◌≡◌, ◌≢◌, ℕ, ◌+◌, ◌-◌, ◌^�
 use Rattle.std.proofs.Common.{Bool, true, false, cond, Option, Some, None, Result, Ok, Err, inl, inr, length-append, max, min, option_map}
 use Rattle.std.proofs.Common.{slice_get}
 use Rattle.std.proofs.Common.{string_bytes}
-use Rattle.std.specs.Prelude.{count_by, is_none, is_some, nat_lt}
+use Rattle.std.specs.Prelude.{count_by, if◌then◌else◌, is_none, is_some, nat_lt}
 use Rattle.std.proofs.lemmas.Bool.Decides.{nat_tests}
 use Rattle.std.proofs.lemmas.List.{map-append}
 use Rattle.std.proofs.lemmas.Option.{none-some}
@@ -18,15 +18,17 @@ use Rattle.object_watch.specs.declared.watch.Risen.TheVariants.{Open, Lost as Lo
 use Rattle.object_watch.specs.declared.watch.Watch.{Watch}
 use Rattle.object_watch.specs.Remainders.{AreHeldWith, AreLedTo}
 use Rattle.program_runs.specs.declared.fault.Fault.TheVariants.{Undecided}
+use Rattle.read_document.specs.declared.key.Key.TheVariants as keys
 use Rattle.read_document.specs.declared.refusal.DocError.{DocError}
-use Rattle.read_exchange.specs.Exchanges.{exchange_seen, keyed_seen, KeyedExchange, operation}
+use Rattle.read_document.specs.declared.refusal.DocError.TheVariants.{Law, Missing}
+use Rattle.read_exchange.specs.Exchanges.{exchange_seen, is_refusal, keyed_seen, KeyedExchange, operation}
 use Rattle.read_exchange.specs.declared.line.ExchangeOp.{ExchangeOp}
 use Rattle.exchanges_log.specs.ExchangeLogs.{is_uncertain, uncertain_in, unfinished_in}
 use Rattle.watch_lines.specs.Kept.{Forgets, IsHeldRecord, IsKeptNumber, IsKeptAlone}
 use Rattle.watch_lines.specs.Lined.{lined_after, lined_op, without_line}
 use Rattle.watch_lines.specs.Namings.{IsNamedExchange, log_by, Naming, op_by}
 use Rattle.watch_lines.specs.Seen.{bare, below, counts_of, fault_by, fault_of, has_key, HasOperation, higher, key_with, moment_of}
-use Rattle.watch_lines.specs.Seen.{opened_with}
+use Rattle.watch_lines.specs.Seen.{opened_with, refusal_at}
 use Rattle.watch_lines.specs.Seen.{LinesSeen}
 use Rattle.watch_lines.specs.Seen.{with_floor}
 use Rattle.watch_lines.specs.Steps.{EndsAs, IsLawfulTo, opened}
@@ -346,18 +348,28 @@ pushed s old new o next line k here got counts moment watch with key lines high 
       },
     )
 
-op_fault : (s : LinesSeen) (o : KeyedExchange) → s.ended ≡ None → has_key s.key o.key ≡ true →
+op_fault : (s : LinesSeen) (o : KeyedExchange) → s.ended ≡ None → has_key s.key o.key ≡ true → is_refusal o.op.what ≡ false →
     below s.high (s.lines + 1) o.op.starts ≡ None →
     fault_of s (Ok (said (operation o))) ≡ None
-op_fault s o before all above =
-    ap (λ (e : Option ℕ). fault_by e s (Ok (said (operation o)))) before ∙ rw all above
+op_fault s o before all taken above =
+    ap (λ (e : Option ℕ). fault_by e s (Ok (said (operation o)))) before
+    ∙ by_tests (has_key s.key o.key) (is_refusal o.op.what) all taken
+  where
+    by_tests : (same refused : Bool) → same ≡ true → refused ≡ false →
+        (if same
+        then (if refused then Some (refusal_at (s.lines + 1) (Missing keys.Limit)) else below s.high (s.lines + 1) o.op.starts)
+        else Some (refusal_at (s.lines + 1) (Law keys.Key))) ≡ None
+    by_tests true false a b = above
+    by_tests true true a b = cc
+    by_tests false refused a b = cc
 
 pub takes_operation : (s : LinesSeen) (o : KeyedExchange) (step : Step) → s.ended ≡ None → has_key s.key o.key ≡ true →
-    below s.high (s.lines + 1) o.op.starts ≡ None → TakesOperation s o step → TakesEntry s (Ok (said (operation o))) step
-takes_operation s o (GoesOn w) before all above h =
+    is_refusal o.op.what ≡ false → below s.high (s.lines + 1) o.op.starts ≡ None → TakesOperation s o step →
+    TakesEntry s (Ok (said (operation o))) step
+takes_operation s o (GoesOn w) before all taken above h =
     let same = ap (λ (t : LinesSeen). moment_of t.high) h.1.made in
-    (h.0, (op_fault s o before all above, h.1, λ less. absurd (omega (arith, same, less))), h.2)
-takes_operation s o (Stops reply) before all above h =
+    (h.0, (op_fault s o before all taken above, h.1, λ less. absurd (omega (arith, same, less))), h.2)
+takes_operation s o (Stops reply) before all taken above h =
     let P : Result Told WatchFault → Type 0 = λ r. TakesEntry s (Ok (said (operation o))) (Stops r) in
     subst P (sym h) (λ other. absurd (other refl))
 

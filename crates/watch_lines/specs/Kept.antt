@@ -8,6 +8,7 @@ use Rattle.std.specs.Str.{bytes_eq}
 use Rattle.object_core.specs.declared.operation.Operation.{Operation}
 use Rattle.object_registers.specs.declared.exchanging.Exchange.{Exchange}
 use Rattle.object_registers.specs.declared.exchanging.Exchange.TheVariants.{Sets, Gets, Swaps, Misses, Finds, Tries}
+use Rattle.object_registers.specs.declared.exchanging.Exchange.TheVariants.{Refuses}
 use Rattle.object_watch.specs.Remainders.{IsOneOfLog}
 use Rattle.object_watch.specs.declared.remainder.Remainder.{Remainder}
 use Rattle.watch_lines.specs.declared.lined.Lined.{Lined}
@@ -59,6 +60,7 @@ Names (Swaps from to) n = (n ≡ from) ⊎ (n ≡ to)
 Names (Misses from) n = n ≡ from
 Names (Finds from found) n = (n ≡ from) ⊎ (n ≡ found)
 Names (Tries from to) n = (n ≡ from) ⊎ (n ≡ to)
+Names (Refuses value) n = n ≡ value
 
 -- one of these does
 abbrev pub AreNaming : List (Operation Lined) → ℕ → Type 0

@@ -4,6 +4,7 @@ use Rattle.std.specs.Prelude.{◌≡◌, ℕ, ◌<◌, List, [], ◌∷◌, map,
 use Rattle.object_core.specs.declared.operation.Operation.{Operation}
 use Rattle.object_registers.specs.declared.exchanging.Exchange.{Exchange}
 use Rattle.object_registers.specs.declared.exchanging.Exchange.TheVariants.{Sets, Gets, Swaps, Misses, Finds, Tries}
+use Rattle.object_registers.specs.declared.exchanging.Exchange.TheVariants.{Refuses}
 use Rattle.read_line.specs.Numberings.{AreDistinct}
 use Rattle.read_exchange.specs.Exchanges.{SaidExchange}
 use Rattle.exchanges_log.specs.ExchangeLogs.{IsNumberedExchange, MeansExchange, texts_of}
@@ -27,6 +28,7 @@ exchange_by f (Swaps from to) = Swaps (f from) (f to)
 exchange_by f (Misses from) = Misses (f from)
 exchange_by f (Finds from found) = Finds (f from) (f found)
 exchange_by f (Tries from to) = Tries (f from) (f to)
+exchange_by f (Refuses value) = Refuses (f value)
 
 abbrev pub op_by : (ℕ → ℕ) → Operation Exchange → Operation Exchange
 op_by f o = record { starts = o.starts; ends = o.ends; maybe = o.maybe; what = exchange_by f o.what }

@@ -11,7 +11,7 @@ use Rattle.read_document.specs.declared.key.Key.TheVariants as key
 use Rattle.read_line.specs.Numberings.{AreDistinct}
 use Rattle.lines_log.specs.Faults.{refused_at}
 use Rattle.lines_log.specs.Logs.{same_key}
-use Rattle.read_exchange.specs.Exchanges.{done, ExchangeEntry, KeyedExchange, operation, refused}
+use Rattle.read_exchange.specs.Exchanges.{done, ExchangeEntry, is_refusal, KeyedExchange, operation}
 use Rattle.exchanges_log.specs.ExchangeLogs.{IsNumberedExchange, texts_of, uncertain_in, unfinished_in}
 use Rattle.exchanges_log.specs.ExchangeNumbers.{GrowBy}
 use Rattle.watch_lines.specs.Lined.{without_line}
@@ -78,12 +78,12 @@ below (Some high) line begins =
 abbrev pub refusal_at : ℕ → DocError → WatchFault
 refusal_at line why = Refused (refused_at line why)
 
--- of an operation, of a refused write, and of the end
+-- of an operation, which is no refused write, and of the end
 abbrev pub entry_fault : LinesSeen → ℕ → ExchangeEntry → Option WatchFault
 entry_fault s line (operation o) =
-    if has_key s.key o.key then below s.high line o.op.starts else Some (refusal_at line (Law key.Key))
-entry_fault s line (refused which) =
-    Some (refusal_at line (if has_key s.key which then Missing key.Limit else Law key.Key))
+    if has_key s.key o.key
+    then (if is_refusal o.op.what then Some (refusal_at line (Missing key.Limit)) else below s.high line o.op.starts)
+    else Some (refusal_at line (Law key.Key))
 entry_fault s line (done ops) = if ops == length s.log then None else Some (refusal_at line (Law key.Ops))
 
 abbrev pub line_fault : LinesSeen → ℕ → Result WatchEntry DocError → Option WatchFault
@@ -142,7 +142,6 @@ pub record HasOperation (s : LinesSeen) (o : KeyedExchange) (t : LinesSeen) : Ty
 
 abbrev pub HasEntry : LinesSeen → ExchangeEntry → LinesSeen → Type 0
 HasEntry s (operation o) t = HasOperation s o t
-HasEntry s (refused which) t = ⊥
 HasEntry s (done ops) t = t ≡ with_end s
 
 abbrev pub HasLine : LinesSeen → Result WatchEntry DocError → LinesSeen → Type 0

@@ -11,7 +11,7 @@ use Rattle.read_document.specs.Document.{is_kind, max_bytes, value_of}
 use Rattle.read_document.specs.Refusals.{◌>>=◌, field, required}
 use Rattle.read_document.specs.Values.{as_whole}
 use Rattle.read_exchange.specs.Exchanges.{entry_in, ExchangeEntry, line_seen}
-use Rattle.read_exchange.specs.declared.line.ExchangeLine.TheVariants.{Operation, Refused, Done}
+use Rattle.read_exchange.specs.declared.line.ExchangeLine.TheVariants.{Operation, Done}
 use Rattle.read_exchange.specs.declared.line.ExchangeOp.{ExchangeOp}
 use Rattle.watch_lines.specs.declared.line.WatchLine.{WatchLine}
 use Rattle.watch_lines.specs.declared.line.WatchLine.TheVariants.{Exchange, Floor, Blank}
@@ -34,7 +34,6 @@ IsForward o = IfSome o.end (λ end. o.begin ≤ end)
 
 abbrev pub RunsForwards : WatchLine → Type 0
 RunsForwards (Exchange (Operation o)) = IsForward o
-RunsForwards (Exchange (Refused key)) = Unit {0}
 RunsForwards (Exchange (Done ops)) = Unit {0}
 RunsForwards (Floor at) = Unit {0}
 RunsForwards Blank = Unit {0}

@@ -42,7 +42,10 @@ fn add_named(numbers: &mut BTreeSet<u64>, what: Exchange) -> Result<(), AllocErr
     ensures { OnOk result (AddsTo numbers.old numbers.new (Names what)) }
 {
     match what {
-        Exchange::Sets(one) | Exchange::Gets(one) | Exchange::Misses(one) => add(numbers, one),
+        Exchange::Sets(one)
+        | Exchange::Gets(one)
+        | Exchange::Misses(one)
+        | Exchange::Refuses(one) => add(numbers, one),
         Exchange::Swaps(one, other) | Exchange::Finds(one, other) | Exchange::Tries(one, other) => {
             add(numbers, one)?;
             add(numbers, other)

@@ -66,6 +66,10 @@ fn number_what(records: &mut Records, what: TextExchange) -> Result<Exchange, Al
             let (from, to) = number_two(records, from, to)?;
             Ok(Exchange::Tries(from, to))
         }
+        TextExchange::Refuses(text) => {
+            let number = number(records, text)?;
+            Ok(Exchange::Refuses(number))
+        }
     }
 }
 

@@ -6,7 +6,7 @@ ghost use Rattle.object_watch.specs.Remainders.{AreAhead, AreHeldWith};
 ghost use Rattle.object_watch.specs.Watches.{IsLedToOpen, IsWatchOf};
 ghost use Rattle.read_document.specs.Refusals.{Gives};
 ghost use Rattle.read_document.specs.declared.refusal.DocError.{DocError};
-ghost use Rattle.read_exchange.specs.Exchanges.{done, keyed_seen, operation, refused};
+ghost use Rattle.read_exchange.specs.Exchanges.{done, keyed_seen, operation};
 ghost use Rattle.watch_lines.specs.Lined.{lined_after, lined_op};
 ghost use Rattle.watch_lines.specs.Replies.{TellsIf};
 ghost use Rattle.watch_lines.specs.Seen.{below, has_key, HasOperation, higher, key_with, moment_of, opened_with};
@@ -29,7 +29,7 @@ use object_registers::{Exchange, Exchanging};
 use object_watch::{Ended, Risen, Watch, WatchError, finish, open_watch, rise, take};
 use program_runs::Fault;
 use read_document::{DocError, Key};
-use read_exchange::{ExchangeLine, ExchangeOp, read_exchange_header};
+use read_exchange::{ExchangeLine, ExchangeOp, is_refusal, read_exchange_header};
 use std::alloc::{AllocError, Global};
 
 /// The line of the header.
@@ -134,22 +134,8 @@ impl Watcher {
             WatchLine::Blank => Step::GoesOn(self.at_line(line)),
             WatchLine::Floor(at) => self.rise_to(alloc, budget, line, at),
             WatchLine::Exchange(ExchangeLine::Operation(op)) => self.take(alloc, line, op),
-            WatchLine::Exchange(ExchangeLine::Refused(key)) => self.refuse(line, &key),
             WatchLine::Exchange(ExchangeLine::Done(ops)) => self.end_at(line, ops),
         }
-    }
-
-    /// A refused write: the log has no limit.
-    fn refuse(self, line: usize, key: &Option<String>) -> Step
-        ensures { (s : LinesSeen) → Knows s self → s.ended ≡ None → line ≡ s.lines + 1 →
-            TakesEntry s (Ok (said (refused (option_map string_bytes key.now)))) result }
-    {
-        let why = if has_key(&self.key, key) {
-            DocError::Missing(Key::Limit)
-        } else {
-            DocError::Law(Key::Key)
-        };
-        Step::Stops(Err(refusal_at(line, why)))
     }
 
     /// The end, which says how many operations there are.
@@ -166,7 +152,7 @@ impl Watcher {
         Step::GoesOn(watcher)
     }
 
-    /// An operation.
+    /// An operation. No write is refused: the log has no limit.
     fn take(self, alloc: Global, line: usize, op: ExchangeOp) -> Step
         requires known { (s : LinesSeen) × Knows s self }
         requires forward { IsForward op }
@@ -175,6 +161,9 @@ impl Watcher {
     {
         if !has_key(&self.key, &op.key) {
             return Step::Stops(Err(refusal_at(line, DocError::Law(Key::Key))));
+        }
+        if is_refusal(&op.what) {
+            return Step::Stops(Err(refusal_at(line, DocError::Missing(Key::Limit))));
         }
         match below(self.high, line, op.begin) {
             Some(fault) => Step::Stops(Err(fault)),

@@ -18,8 +18,8 @@ MOST_BY_ALL_ORDERS = 7
 
 # A line: its text, its key, what it does, and the records that it names.
 Line = collections.namedtuple("Line", "text key op records")
-# A log: the opening, its lines, and whether the end is there.
-Log = collections.namedtuple("Log", "opening lines ended")
+# A log: the opening, the limit or None, its lines, and whether the end is there.
+Log = collections.namedtuple("Log", "opening limit lines ended")
 
 
 def must(holds, number, why):
@@ -41,14 +41,13 @@ def has_repeats(data):
     return isinstance(header, dict) and header.get("kind") == "lines" and header.get("repeats") is True
 
 
-def opening_of(header):
+def head_of(header):
     must("opening" in header, 1, "missing opening")
     opening, limit = record_of(header["opening"]), header.get("limit")
     must(opening is not None, 1, "shape of opening")
     must(limit is None or is_whole(limit), 1, "shape of limit")
     must(limit is None or 1 <= limit <= documents.MAX_LIMIT, 1, "range of limit")
-    must(limit is None, 1, "law of limit")
-    return opening
+    return opening, limit
 
 
 def is_maybe_record(value):
@@ -88,6 +87,8 @@ def meaning(opening, found):
     begin, end, record = found["begin"], found["end"], record_of(found["record"])
     if found["kind"] in ("write", "maybe"):
         return sweeps.Operation(begin, end, found["kind"] == "maybe", "sets", record, None), {record}
+    if found["kind"] == "refused":
+        return sweeps.Operation(begin, end, False, "refuses", record, None), {record}
     if found["kind"] == "read":
         return sweeps.Operation(begin, end, False, "gets", opening if record is None else record, None), {record} - {None}
     expected, saw = record_of(found["from"]), record_of(found.get("found"))
@@ -113,19 +114,19 @@ def is_end(number, found, count, last):
 
 def read(data):
     texts, whole = lines_of(data), data.split(b"\n")
-    opening, lines = opening_of(documents.read_json(texts[0])), []
+    (opening, limit), lines = head_of(documents.read_json(texts[0])), []
     for number, text in enumerate(texts[1:], 2):
         found = value_of(text, number)
         found = found if isinstance(found, dict) else {}
         if is_end(number, found, len(lines), number == len(texts)):
-            return Log(opening, lines, True)
+            return Log(opening, limit, lines, True)
         refuse_shapes(number, found)
         refuse_laws(number, found)
         key = record_of(found.get("key"))
         must(not lines or key == lines[0].key, number, "law of key")
-        must(found["kind"] != "refused", number, "missing limit")
+        must(found["kind"] != "refused" or limit is not None, number, "missing limit")
         lines.append(Line(whole[number - 1].decode(), key, *meaning(opening, found)))
-    return Log(opening, lines, False)
+    return Log(opening, limit, lines, False)
 
 
 def is_found(machine, ops):
@@ -149,8 +150,9 @@ def is_found(machine, ops):
     return False
 
 
-def is_lawful(opening, ops):
-    machine = sweeps.Exchanging(opening)
+def is_lawful(opening, ops, limit=None):
+    """Whether there is a lawful order. Without a limit a refused write is as a read of the record that it saw."""
+    machine = sweeps.Exchanging(opening) if limit is None else sweeps.LimitedExchanging(opening, limit)
     return sweeps.has_order(machine, ops) if len(ops) <= MOST_BY_ALL_ORDERS else is_found(machine, ops)
 
 
@@ -170,7 +172,7 @@ def lost_at(opening, ops, judge=is_lawful):
 
 def may_find(op):
     """Whether an operation is sure to have found a record, and says which."""
-    return sweeps.is_due(op) and op.kind in ("gets", "swaps", "finds")
+    return sweeps.is_due(op) and op.kind in ("gets", "swaps", "finds", "refuses")
 
 
 def leaves(op):
@@ -216,13 +218,28 @@ def counts(log):
     return f"{len(ops)} operations, {unfinished} unfinished, {uncertain} uncertain, {len(records)} records{cut}\n"
 
 
+def limit_text(log):
+    """What is told of a log that has a lawful order without its limit, and none with it; nothing of any other."""
+    ops = [it.op for it in log.lines]
+    if log.limit is None or not is_lawful(log.opening, ops):
+        return None
+    place = lost_at(log.opening, ops, lambda opening, known: is_lawful(opening, known, log.limit))
+    if place is None:
+        return None
+    line, lost = place + 2, log.lines[place]
+    told = f"no order of the operations is lawful with the limit {log.limit}; without it the log is lawful"
+    return f"unlawful limit {line}\nline {line}: {lost.text}\nUp to the end of line {line}, at {lost.op.ends}, {told}.\n"
+
+
 def answer(data):
     """The text, the line on standard error, and the status."""
     try:
         log = read(data)
     except Fault as fault:
         return "", f"fsr: {fault}\n", 3
-    ops = [it.op for it in log.lines]
+    ops, by_limit = [it.op for it in log.lines], limit_text(log)
+    if by_limit:
+        return by_limit + counts(log), "", 1
     place = lost_at(log.opening, ops)
     if place is None:
         return "lawful\n" + counts(log), "", 0

@@ -31,8 +31,10 @@ def intervals(random):
     return found if most <= MOST_UNDER_WAY else intervals(random)
 
 
-def do(random, values, held, end):
+def do(random, values, held, end, refuses=False):
     """What an operation does of a register that holds a value, without its names, and what it holds then."""
+    if refuses and random.random() < 0.4:
+        return {"kind": "refused", "record": held}, held
     value, happens = random.choice(values), random.random() < 0.5
     kind = random.choice(("write", "write", "read", "read", "read", "cas", "cas", "cas", "maybe"))
     if kind == "read":
@@ -52,7 +54,7 @@ def do(random, values, held, end):
 
 def change_answer(random, values, made):
     """Another answer in place of this one, if it has one."""
-    if made["kind"] == "read" and made["record"] is not None:
+    if made["kind"] in ("read", "refused") and made["record"] is not None:
         made["record"] = random.choice(values)
     elif made["kind"] == "cas" and made["swapped"] is not None:
         made["swapped"] = not made["swapped"]
@@ -62,14 +64,17 @@ def change_answer(random, values, made):
             made["found"] = seen
 
 
-def good_log(random):
-    """The rows of a log of a register, or with some answers changed."""
+def good_log(random, limits=(None,)):
+    """The rows of a log of a register, or with some answers changed. With a limit it refuses writes once it changed so often, and few before;
+    the header may say another one."""
     values, style = range(random.randint(2, 4)), random.randrange(len(NAMES))
     times = intervals(random)
     points = sorted((random.uniform(begin, begin + 9 if end is None else end), place) for place, (begin, end) in enumerate(times))
-    held, made = 0, {}
+    held, made, limit, done = 0, {}, random.choice(limits), 0
     for _, place in points:
-        made[place], held = do(random, values, held, times[place][1])
+        was, refuses = held, limit is not None and (done >= limit or random.random() < 0.05)
+        made[place], held = do(random, values, held, times[place][1], refuses)
+        done += held != was
     changes = random.choice((0, 1, 1, 2))
     for place in random.sample(sorted(made), min(changes, len(made))):
         change_answer(random, values, made[place])
@@ -79,7 +84,10 @@ def good_log(random):
         it = {name: name_of(random, style, it) if name in ("record", "from", "found") and it is not None else it for name, it in made[place].items()}
         rows.append({"who": random.randrange(4), "begin": times[place][0], "end": times[place][1], **it, **key})
     last = [{"kind": "done", "ops": len(rows)}] if random.random() < 0.5 else []
-    return [{"kind": "lines", "opening": name_of(random, style, 0), "repeats": True}, *rows, *last]
+    header = {"kind": "lines", "opening": name_of(random, style, 0), "repeats": True}
+    if limit is not None:
+        header["limit"] = limit + random.choice((0, 0, 0, 1))
+    return [header, *rows, *last]
 
 
 def spoil_laws(random, it):
@@ -150,7 +158,7 @@ def text_of(random, rows):
 
 def make_log(random):
     """The bytes of a log."""
-    rows = good_log(random)
+    rows = good_log(random, (None, None, 1, 2, 3))
     if random.random() < 0.4:
         spoil(random, rows)
     if len(rows) <= MOST_WRITTEN_ONCE and random.random() < 0.1:

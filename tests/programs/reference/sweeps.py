@@ -46,6 +46,25 @@ class Exchanging:
                 return held if held == op.second != op.first else None
             case "tries":
                 return op.second if held == op.first else held
+            case "refuses":
+                return held if held == op.first else None
+
+
+class LimitedExchanging:
+    """One that may refuse a write once so many were done: what it holds, and how many are still due. A compare-and-set that writes is one."""
+
+    kinds = (*Exchanging.kinds, "sets", "refuses", "refuses", "refuses")
+
+    def __init__(self, held, due):
+        self.opening, self.words = (held, due), f"limited_exchanging {held} {due}"
+
+    def step(self, state, op):
+        held, due = state
+        if op.kind == "refuses" and due > 0:
+            return None
+        after = Exchanging(held).step(held, op)
+        writes = op.kind in ("sets", "swaps") or (op.kind == "tries" and held == op.first)
+        return None if after is None else (after, max(due - 1, 0) if writes else due)
 
 
 class Limited:
@@ -142,7 +161,8 @@ def random_operation(machine, values, moments):
 
 def random_log():
     values = random.choice((2, 3))
-    machine = Exchanging(random.randrange(values)) if random.random() < 0.5 else Limited(random.randrange(values), random.randrange(3))
+    machine = random.choice((Exchanging, Limited, LimitedExchanging))
+    machine = machine(random.randrange(values), *(() if machine is Exchanging else (random.randrange(3),)))
     moments = random.choice((4, 8, 20))
     return machine, [random_operation(machine, values, moments) for _ in range(random.randrange(1, 7))]
 

@@ -28,7 +28,9 @@ def lines_of(data):
 def header_in(line):
     found = value_of(line, 1)
     must(isinstance(found, dict) and found.get("kind") == "lines", 1, "kind")
-    return Seen(exchanges.opening_of(found), [], [], [], 0, None, 0, None)
+    opening, limit = exchanges.head_of(found)
+    must(limit is None, 1, "law of limit")
+    return Seen(opening, [], [], [], 0, None, 0, None)
 
 
 def known(ops, moment):

@@ -52,11 +52,13 @@ def text_of(log, places, first, last):
 
 
 def is_right(data, text):
-    """Whether this text tells right of a log that is lost: why the operation at whose end it is can't have found its record; else the latest
+    """Whether this text tells right of a log that is lost: that it is so by its limit alone; why the operation at whose end it is can't have found its record; else the latest
     window to that end, none of whose operations can be left out; or that end, where none of so many operations is one."""
     log = exchanges.read(data)
     ops = [it.op for it in log.lines]
     place = exchanges.lost_at(log.opening, ops)
+    if place is None:
+        return text == exchanges.answer(data)[0]
     if exchanges.unsourced(log.opening, ops, place):
         return text == exchanges.answer(data)[0]
     last = ops[place].ends

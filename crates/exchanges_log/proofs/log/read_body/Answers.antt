@@ -3,7 +3,7 @@ use Rattle.std.proofs.Common.{◌∙◌, Bool, arith, subst}
 use Rattle.read_document.specs.Splits.{lines_of}
 use Rattle.lines_log.proofs.BodyLemmas.{none_found}
 use Rattle.exchanges_log.specs.ExchangeFaults.{IsExchangeFault}
-use Rattle.exchanges_log.specs.inner.ExchangeReadings.{key_of, ReadsExchange}
+use Rattle.exchanges_log.specs.inner.ExchangeReadings.{rule_of, ReadsExchange}
 use Rattle.exchanges_log.proofs.WholeLemmas.{all_read, at_fault, one_more}
 use Rattle.exchanges_log.proofs.log.read_body.Goals as goal
 
@@ -13,23 +13,23 @@ read-requires-clause-known c =
 
 pub returns-in-Err-clause-fault : goal.returns-in-Err-clause-fault
 returns-in-Err-clause-fault c = λ opening read.
-    at_fault opening (key_of c.args.reader.now) c.lines.ended (lines_of c.args.body.now) c.lines.rest.now c.in-Some.line.now
+    at_fault opening (rule_of c.args.reader.now) c.lines.ended (lines_of c.args.body.now) c.lines.rest.now c.in-Some.line.now
     c.in-Some.behind.now c.lines.reader c.in-Err.fault (c.lines.invariant.way opening read) c.in-Some.ensures
-    (λ lines was. subst (λ (b : Bool). IsExchangeFault (key_of c.lines.reader) lines c.in-Some.line.now b c.in-Err.fault)
+    (λ lines was. subst (λ (b : Bool). IsExchangeFault (rule_of c.lines.reader) lines c.in-Some.line.now b c.in-Err.fault)
     c.is_end-last.ensures (c.in-Err.ensures.fault opening lines was))
 
 pub lines-preserved : goal.lines-preserved
 lines-preserved c = record {
   way = λ opening read.
-      one_more opening (key_of c.args.reader.now) c.lines.ended (lines_of c.args.body.now) c.lines.rest.now c.in-Some.line.now
+      one_more opening (rule_of c.args.reader.now) c.lines.ended (lines_of c.args.body.now) c.lines.rest.now c.in-Some.line.now
       c.in-Some.behind.now c.lines.reader c.read.new.self c.in-Ok.ended (c.lines.invariant.way opening read) c.in-Some.ensures
       (λ lines was. subst (λ (b : Bool). ReadsExchange opening lines c.in-Some.line.now b c.lines.reader c.read.new.self c.in-Ok.ended)
-      c.is_end-last.ensures (c.in-Ok.ensures.read opening lines was)) c.in-Ok.ensures.key;
-  key = c.in-Ok.ensures.key ∙ c.lines.invariant.key;
+      c.is_end-last.ensures (c.in-Ok.ensures.read opening lines was)) c.in-Ok.ensures.rule;
+  key = c.in-Ok.ensures.rule ∙ c.lines.invariant.key;
   room = omega (arith, c.in-Ok.ensures.grows, c.in-Some.ensures.shorter, c.lines.invariant.room);
 }
 
 pub returns-clause-read : goal.returns-clause-read
 returns-clause-read c = λ opening read.
-    all_read opening (key_of c.args.reader.now) c.lines.ended (lines_of c.args.body.now) c.lines.rest.now c.lines.reader
+    all_read opening (rule_of c.args.reader.now) c.lines.ended (lines_of c.args.body.now) c.lines.rest.now c.lines.reader
     (none_found _ c.split_line.result c.split_line.ensures c.in_default.not-Some) (c.lines.invariant.way opening read)

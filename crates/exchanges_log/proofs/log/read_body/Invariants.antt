@@ -1,14 +1,14 @@
 -- The lines so far were read, and each took a byte of the text at least.
 use Rattle.std.proofs.Common.{◌≡◌, ◌+◌, ◌≤◌, ℕ, List, [], length}
 use Rattle.read_document.specs.Splits.{lines_of}
-use Rattle.exchanges_log.specs.inner.ExchangeReadings.{AreExchangesRead, IsBodyReadSoFar, key_of}
+use Rattle.exchanges_log.specs.inner.ExchangeReadings.{AreExchangesRead, IsBodyReadSoFar, rule_of}
 use Rattle.exchanges_log.proofs.log.read_body.Given as goal
 
 abbrev pub invariant-lines : goal.invariant-lines
 invariant-lines l = record {
   way : (opening : List ℕ) → AreExchangesRead opening [] l.initial.reader →
-      IsBodyReadSoFar opening (key_of l.initial.reader) l.ended (lines_of l.body) l.rest l.reader;
-  key : key_of l.reader ≡ key_of l.initial.reader;
+      IsBodyReadSoFar opening (rule_of l.initial.reader) l.ended (lines_of l.body) l.rest l.reader;
+  key : rule_of l.reader ≡ rule_of l.initial.reader;
   room : length l.reader.ops.items + length l.rest ≤ length l.initial.reader.ops.items + length l.body;
 }
 

@@ -1,4 +1,4 @@
--- What was read is the log, or its fault, and what was printed is the verdict on it.
+-- What was read is the log, or its fault, and what was printed is what is known of it.
 use Rattle.std.proofs.Common.{inr}
 use Rattle.fsr_repeats_answers.proofs.ExchangesLemmas.{judged}
 use Rattle.fsr_repeats_answers.proofs.exchanges.order_exchanges.Goals as goal
@@ -9,5 +9,4 @@ returns-in-Err c = λ other. inr c.in-Err.ensures.fault
 pub returns-in-Ok-answer_log : goal.returns-in-Ok-answer_log
 returns-in-Ok-answer_log c =
     let told = c.in-Ok-answer_log.ensures in
-    judged c.args.budget c.args.bytes.now c.in-Ok.log told.0 told.1 c.in-Ok.ensures.log told.2 told.3 c.in-Ok-answer_log.reply
-    told.4
+    judged c.args.budget c.args.bytes.now c.in-Ok.log told.0 c.in-Ok.ensures.log told.1 c.in-Ok-answer_log.reply told.2

@@ -1,7 +1,7 @@
 -- By the numbers of its records an operation does the same.
 use Rattle.std.proofs.Common.{refl, sym, ◌∙◌, ap, subst, Some, string_bytes, inl}
-use Rattle.object_registers.specs.declared.exchanging.Exchange.TheVariants.{Sets, Gets, Swaps, Misses, Finds, Tries}
-use Rattle.read_exchange.specs.Exchanges.{gets, misses, sets, swaps, tries, what_seen}
+use Rattle.object_registers.specs.declared.exchanging.Exchange.TheVariants.{Sets, Gets, Swaps, Misses, Finds, Tries, Refuses}
+use Rattle.read_exchange.specs.Exchanges.{gets, misses, refuses, sets, swaps, tries, what_seen}
 use Rattle.read_exchange.specs.declared.line.TextExchange.{TextExchange}
 use Rattle.read_exchange.specs.declared.line.TextExchange.TheVariants as text
 use Rattle.watch_lines.specs.Namings.{IsNamedWhat}
@@ -78,3 +78,13 @@ returns-in_ok-from-in-Tries c = λ all naming kept.
     subst P (sym c.in-Tries.is)
     (of_two all naming c.args.records.now new first second m n (tries first second) (Tries m n) refl
     (λ after f at_m at_n. (f m, f n, at_m, at_n, refl)) (λ k names. names) (c.in_ok-from-in-Tries.ensures all naming kept))
+
+pub returns-in_ok-number-in-Refuses : goal.returns-in_ok-number-in-Refuses
+returns-in_ok-number-in-Refuses c = λ all naming kept.
+    let n = c.in_ok-number-in-Refuses.number in
+    let new = c.number-in-Refuses.new.records in
+    let bytes = string_bytes c.in-Refuses.text in
+    let P : TextExchange → Type 0 = λ w. IsNamedWhat all naming c.args.records.now (what_seen w) new (Refuses n) in
+    subst P (sym c.in-Refuses.is)
+    (of_one all naming c.args.records.now new bytes n (refuses bytes) (Refuses n) refl (λ after f at. (f n, at, refl))
+    (λ k names. names) (c.in_ok-number-in-Refuses.ensures all naming kept))

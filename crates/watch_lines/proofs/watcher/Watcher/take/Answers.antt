@@ -12,6 +12,7 @@ returns-in-None c = λ s k before next.
     takes_operation s (keyed_seen c.args.op) c.put.result before
     (ap (λ (all : Option (Option (List ℕ))). has_key all (option_map string_bytes c.args.op.key)) (sym k.key)
     ∙ sym c.if-not-has_key.ensures)
+    (sym c.if-is_refusal.ensures)
     (ap (λ (h : Option Floor). below h (s.lines + 1) c.args.op.begin) (sym k.high)
     ∙ (ap (λ (n : ℕ). below c.args.self.high n c.args.op.begin) (sym next) ∙ above))
     (c.put.ensures s k next)
