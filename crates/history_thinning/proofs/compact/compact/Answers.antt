@@ -23,15 +23,15 @@ loop-from-preserved c =
     omega (arith, c.loop-from-test.true, c.count_rows-from-end.ensures.ops) in
     let lo : c.loop-from.from < length ops = omega (arith, c.loop-from-test.true, c.count_rows-from-end.ensures.ops, inv.0) in
     let lp : c.loop-from.from < length places = omega (arith, c.loop-from-test.true, c.count_rows-from-end.ensures.places, inv.1) in
-    let s = settled c.loop-from.from c.loop-from.used ops places c.loop-from.roles.items c.settle.new.rows.ops.items
-    c.settle.new.rows.places.items c.settle.new.roles.items c.settle.result c.settle.ensures lo lp inv.2 in (
+    let s = settled c.loop-from.from c.loop-from.used ops places c.loop-from.roles.items c.settle-used.new.rows.ops.items
+    c.settle-used.new.rows.places.items c.settle-used.new.roles.items c.settle-used.result c.settle-used.ensures lo lp inv.2 in (
       s.0 ∙ inv.0,
       s.1 ∙ inv.1,
       s.2,
       λ log known. partly_next log
           (groups_at c.args.rows.now.ops.items c.args.rows.now.places.items c.args.roles.now.items) (length c.args.rows.now.ops.items)
-          c.loop-from.from c.loop-from.used ops places c.loop-from.roles.items (inv.3 log known) all c.settle.new.rows.ops.items
-          c.settle.new.rows.places.items c.settle.new.roles.items c.settle.result c.settle.ensures,
+          c.loop-from.from c.loop-from.used ops places c.loop-from.roles.items (inv.3 log known) all c.settle-used.new.rows.ops.items
+          c.settle-used.new.rows.places.items c.settle-used.new.roles.items c.settle-used.result c.settle-used.ensures,
     )
 
 pub returns : goal.returns
