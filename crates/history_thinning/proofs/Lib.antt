@@ -1,9 +1,7 @@
 -- Lemmas.
 pub mod Joined
 pub mod Entered
-pub mod Growing
-pub mod RowLemmas
-pub mod Compacted
+pub mod Gathering
 pub mod Finished
 pub mod Steps
 pub mod Writes
