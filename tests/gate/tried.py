@@ -1,9 +1,10 @@
 """Which wrong bodies a run of `./test` has to try: all of a crate that has changed since all of its own were tried and refused, and of the
 other crates each tenth, by turns.
 
-tests/gate/tried.txt has by a crate's name a sum of all on which the prover's answers depend: the kit, what tries the wrong bodies, and of
-the crate and each one below it the row of crates.txt and the files. `./test bodies` writes it, and each run of `./test` out/tried.txt, which
-may take its place. A sum of anything else leaves out no try, so where a line is missing or written by hand all of the crate are tried.
+tests/gate/tried.txt has by a crate's name a sum of all on which the prover's answers depend: the kit by the sums of its archive and its
+compiler (WHAT), as machines have one kit under several names, what tries the wrong bodies, and of the crate and each one below it the row
+of crates.txt and the files. `./test bodies` writes it, and each run of `./test` out/tried.txt, which may take its place. A sum of anything
+else leaves out no try, so where a line is missing or written by hand all of the crate are tried.
 """
 
 import hashlib
@@ -33,7 +34,7 @@ def files_of(top, name, folders):
 
 def sums_of(top, kit, rows, below):
     """By each crate's name its sum. `below` has the names of the crates below each."""
-    common = [file.read_bytes() for file in [kit / "KIT-ID", kit / "WHAT", *(top / it for it in JUDGES)]]
+    common = [file.read_bytes() for file in [kit / "WHAT", *(top / it for it in JUDGES)]]
     own = {name: digest([row.encode(), *files_of(top, name, SOURCES)]) for name, (row, _) in rows.items()}
     return {
         name: digest([*common, *(own[it].encode() for it in [*below[name], name]), *files_of(top, name, ("must-fail",))]) for name in rows

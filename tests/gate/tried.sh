@@ -111,7 +111,8 @@ try_after_sums() {
     tries_changed "a changed file" crates/high/src/lib.rt "$due_low" 20
     tries_changed "a changed file of a crate below" crates/low/src/lib.rt 20 20
     tries_changed "a changed wrong body" crates/low/must-fail/edit7.edit 20 "$due_high"
-    tries_changed "a changed kit" kit/KIT-ID 20 20
+    tries_changed "a changed kit" kit/WHAT 20 20
+    tries_changed "another name of the kit" kit/KIT-ID "$due_low" "$due_high"
     tries_changed "a changed judge" tests/gate/wrong_bodies.py 20 20
     cp "$tried_tree/crates.txt" "$room/rows" && sed -i 's/^low:/low [more]:/' "$tried_tree/crates.txt"
     tries "a changed row of a crate below" 0 20 20 --proved --turn 4
