@@ -36,8 +36,9 @@ STATED = "stated"
 MACHINES = "x86_64", "aarch64"
 # What is built for all of them.
 FOR_ALL = "c_exports", "fsr", "picture"
-# A crate's proof gains little from more processors, and a program's nothing.
-MOST_JOBS, LONGEST_JOBS = 2, 4
+# A proof in several jobs takes some three fifths more processor time than in one, however many they are, and begins and ends in one. So two
+# jobs end no sooner than one, and these do. A program gains nothing.
+LEAST_JOBS, MOST_JOBS = 3, 4
 # Processor seconds below which a proof gets one job.
 SMALL = 40
 # Bytes that a proof takes for its first job and for each further one.
@@ -99,7 +100,8 @@ class Crate:
         """About how many processor seconds its proof takes, by its text: each crate some, a program more, and what its code is. Its proofs
         take little beside that."""
         known = (48 if self.is_program else 8) + sum(BEYOND.get(it, 0) for it in self.words)
-        return known + sum(map(os.path.getsize, self.files("src"))) / 290
+        texts = [text_of(it) or "" for it in self.files("src")]
+        return known + sum(len(it) / 450 + len(re.findall(r"\bfn \w", it)) / 2 for it in texts)
 
     def sum(self, kit):
         """Of what it is made: the toolchain, its row, the crates below it as they are built, and its files."""
@@ -283,8 +285,6 @@ class Builder:
         self.left, self.kit = list(crates), kit
         self.built, self.refused, self.works, self.told = set(), set(), {}, set()
         self.processors, self.memory = processors(), 0.85 * free_memory()
-        # (whoever allots processors gets no job more)
-        self.shared = 0 if os.environ.get("RT_JOBS") else 1
         self.selector = selectors.DefaultSelector()
         self.behind = {it: it.weight() for it in crates}
         for it in reversed(crates):
@@ -292,20 +292,19 @@ class Builder:
             self.behind[it] += max(above, default=0)
 
     def jobs_now(self, crate, ready):
-        """How many jobs a proof gets that is the first of so many, 0 where it has to wait. A job more costs processor time, as each reads
-        what lies below. So a proof gets several only where processors would have nothing to do, or where the chain behind it would
-        outlast all that is left. Then one of its jobs may share a processor."""
-        longest = all(self.behind[crate] >= self.behind[it] for it in self.works)
+        """How many jobs a proof gets that is the first of so many, 0 where it has to wait. A proof gets several only where processors would
+        have nothing to do, or where the chain behind it would outlast all that is left."""
         left = self.processors - sum(it.jobs for it in self.works.values())
         free = self.memory - sum(it.memory() for it in self.works.values())
         if left < 1 or crate.is_program or crate.weight() < SMALL:
             wanted = min(left, 1)
         else:
-            idle = min(left - ready + 1, LONGEST_JOBS if longest else MOST_JOBS)
+            idle = min(left - ready + 1, MOST_JOBS)
             unbuilt = sum(it.weight() for it in [*self.left, *self.works])
-            chain = min(round(self.behind[crate] * self.processors / unbuilt), LONGEST_JOBS, left + self.shared)
-            wanted = max(idle, chain, 1)
+            chain = min(round(self.behind[crate] * self.processors / unbuilt), MOST_JOBS, left)
+            wanted = max(idle, chain) if max(idle, chain) >= LEAST_JOBS else 1
         jobs = min(wanted, 1 + int((free - FIRST_JOB) // NEXT_JOB))
+        jobs = jobs if jobs >= LEAST_JOBS else min(jobs, 1)
         return jobs if jobs > 0 or self.works else 1
 
     def start_ready(self):

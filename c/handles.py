@@ -1,6 +1,6 @@
-"""What crates/c_handles has for each side and place that C may have: a struct of its own with just that side (side.rt), the handle that
-C passes, whose box is an erased pointer (handles/), and the proofs, which cite the lemmas for all of them (proofs/AnyLoose) at the row
-of each (proofs/Rows). `c/exports.py` writes and compares them.
+"""What crates/c_handles has for each family: a place at a board over it, with any record (place.rt). And for each side and place that C may
+have: a struct of its own with just that side (side.rt), the handle that C passes, whose box is an erased pointer (handles/), and the
+proofs, which cite the lemmas for all of them (proofs/AnyLoose) at the row of each (proofs/Rows). `c/exports.py` writes and compares them.
 
 A handle's `live` is the number of its type where it has a side. 0 is no side, and 255 a call that runs or was cut off."""
 
@@ -68,22 +68,42 @@ def proofs(kind):
 SIDE_HEAD = """//! What a handle can have, each in a struct of its own.
 ghost use Rattle.std.specs.Prelude.{{◌≡◌}};
 
+use crate::place::{{FourSlotPlace, TriplePlace}};
 use crate::record::{{{records}}};
-use board_live::Posted;
-use c_boards::{{Place, Seated}};
+use c_boards::Seated;
 use c_registers::{{FourSlotReader, FourSlotWriter, TripleReader, TripleWriter, Wraps}};
-use family_four_slot::FourSlotFamily;
-use family_triple::TripleFamily;
 """
 
 SEAT = """
 /// {words}.
-pub type {name}{size} = Seated<Place<Record{size}, {family}<Posted<Record{size}>>>>;
+pub type {name}{size} = Seated<{place}<Record{size}>>;
 """
 
 SEATS = (
-    ("FourSlotSeat", "FourSlotFamily", "A place at a board over four-slot cells"),
-    ("TripleSeat", "TripleFamily", "A place at a board over triple buffers"),
+    ("FourSlotSeat", "FourSlotPlace", "A place at a board over four-slot cells"),
+    ("TripleSeat", "TriplePlace", "A place at a board over triple buffers"),
+)
+
+PLACE_HEAD = """//! A place at a board over each family, with records that have no law.
+//!
+//! Its type names the record alone, so a call at it has a small dictionary.
+ghost use Rattle.std.specs.Prelude.{map};
+ghost use Rattle.std.specs.Arc.{arc_value};
+ghost use Rattle.board_live.specs.Passes.{IsPass};
+ghost use Rattle.c_boards.specs.Boards.{HasPosted, IsRefused, HasSeen, IsBoardOf};
+
+use board_live::{BoardError, Posted};
+use c_boards::{Free, HasPlace, Place, Sits, Sitting, open_places};
+use cell_contract::Family;
+use family_four_slot::FourSlotFamily;
+use family_triple::TripleFamily;
+use matrix_core::Stamp;
+use std::alloc::Global;
+"""
+
+FAMILIES = (
+    {"name": "FourSlotPlace", "family": "FourSlotFamily", "words": "A place at a board over four-slot cells"},
+    {"name": "TriplePlace", "family": "TripleFamily", "words": "A place at a board over triple buffers"},
 )
 
 SIDE = """
@@ -118,8 +138,8 @@ def sides():
     """The text of side.rt."""
     head = SIDE_HEAD.format(records=", ".join(f"Record{size}" for size in SIZES))
     seats = "".join(
-        SEAT.format(name=name, family=family, words=f"{words} with records of {size:,} bytes", size=size)
-        for name, family, words in SEATS
+        SEAT.format(name=name, place=place, words=f"{words} with records of {size:,} bytes", size=size)
+        for name, place, words in SEATS
         for size in BOARD_SIZES
     )
     return head + seats + "".join(SIDE.format(**{**kind, "words": kind["words"][0].upper() + kind["words"][1:]}) for kind in kinds())
@@ -127,7 +147,10 @@ def sides():
 
 def made():
     """The files by their names below crates/c_handles, without their first line."""
-    files = {"src/side.rt": sides()}
+    files = {
+        "src/place.rt": PLACE_HEAD + "".join(template("place.rt", family) for family in FAMILIES),
+        "src/side.rt": sides(),
+    }
     modules = [kind["module"] for kind in kinds()]
     files["src/handles.rt"] = "//! The handles, a type for each side and place.\n\n" + "".join(f"pub mod {name};\n" for name in sorted(modules))
     for kind in kinds():

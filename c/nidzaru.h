@@ -999,18 +999,21 @@ NIDZARU_DECLARE_BOARD(triple_board_4096)
                      : nidzaru_board_4096_##call arguments)
 
 /* What a make of a board asks for. Its registers, one for each place to each, have `stride` words and so many slots each, eight words stand
- * before them, and `record` is a record with its stamp. Words and slots are first put into a list each. A `seat` is what a place knows of the
- * registers, a `pass` all that it has: there are two lists of seats and one of passes, two of places and one of what handles lead to. The
- * board is a block, and each place has two, and all but one room for a seat. */
+ * before them and eight for each place behind, and `record` is a record with its stamp. Words and slots are first put into a list each; that
+ * of the words grows once. A `seat` is what a place knows of the registers, a `pass` all that it has: there are two lists of seats and one of
+ * passes, two of places and one of what handles lead to. The board is a block, and each place has two, and all but one room for a seat. */
+#define NIDZARU_BOARD_WORDS(places, stride) ((stride) * (places) * (places) + 8)
 #define NIDZARU_BOARD_PARTS(places, stride, slots, record, seat, pass)                                                \
-    (2 * NIDZARU_LINES(8 * ((stride) * (places) * (places) + 8)) + 2 * NIDZARU_LINES((slots) * (places) * (places) * (record)) + \
-     2 * NIDZARU_LINES((places) * (seat)) + NIDZARU_LINES((places) * (pass)) + 2 * NIDZARU_LINES(16 * (places)) +     \
+    (NIDZARU_LINES(8 * NIDZARU_BOARD_WORDS(places, stride)) + NIDZARU_LINES(16 * NIDZARU_BOARD_WORDS(places, stride)) + \
+     NIDZARU_LINES(8 * NIDZARU_BOARD_WORDS(places, stride) + 64 * (places)) +                                         \
+     2 * NIDZARU_LINES((slots) * (places) * (places) * (record)) + 2 * NIDZARU_LINES((places) * (seat)) +             \
+     NIDZARU_LINES((places) * (pass)) + 2 * NIDZARU_LINES(16 * (places)) +                                            \
      NIDZARU_LINES(8 * (places)) + NIDZARU_LINES((record) + 88) + (places) * (NIDZARU_LINES(pass) + NIDZARU_LINES(16)) + \
      ((places) - 1) * NIDZARU_LINES(seat))
 #define NIDZARU_BOARD_BYTES(triple, size, places)                                                                     \
-    ((triple) ? NIDZARU_BOARD_PARTS(places, 8, 3, (size) + 16, (size) + 288, 2 * (size) + 336)                        \
-              : NIDZARU_BOARD_PARTS(places, 16, 4, (size) + 16, (size) + 544, 2 * (size) + 592))
-#define NIDZARU_BOARD_REQUESTS(places) (3 * (places) + 10)
+    ((triple) ? NIDZARU_BOARD_PARTS(places, 8, 3, (size) + 16, (size) + 288, 2 * (size) + 344)                        \
+              : NIDZARU_BOARD_PARTS(places, 16, 4, (size) + 16, (size) + 544, 2 * (size) + 600))
+#define NIDZARU_BOARD_REQUESTS(places) (3 * (places) + 11)
 #define NIDZARU_BOARD_MAKE_BYTES(name, places)                                                                        \
     NIDZARU_BOARD_BYTES(name##_is_triple, NIDZARU_BOARD_SIZE(sizeof(name##_record)), places)
 #define NIDZARU_BOARD_MAKE_REQUESTS(name, places) (NIDZARU_BOARD_REQUESTS(places) + 0 * sizeof(name##_place))

@@ -32,7 +32,6 @@ KIT_LICENCES = {
     "itoa": "MIT OR Apache-2.0",
     "serde": "MIT OR Apache-2.0",
     "serde_json": "MIT OR Apache-2.0",
-    "thiserror": "MIT OR Apache-2.0",
 }
 # What is linked beside crates: of the repository, and of others by names, licences and what it is.
 OWN_OBJECTS = {

@@ -61,7 +61,7 @@ enum { PLACES = 3 };
 
 /* The most bytes that `make` of three places asks for: records of the library with their stamps, of six cells and three passes, and
  * what is the same for every size; of each request two lines more. */
-static size_t most_bytes(size_t size) { return 100 * (16 + NIDZARU_BOARD_SIZE(size)) + 10000 + 2 * 64 * (size_t)asked; }
+static size_t most_bytes(size_t size) { return 100 * (16 + NIDZARU_BOARD_SIZE(size)) + 13000 + 2 * 64 * (size_t)asked; }
 
 #define EDGE(name, type, board, triple)                                                                               \
     board(name, type);                                                                                                \

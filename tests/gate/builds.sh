@@ -153,8 +153,8 @@ else
     else
         fail "no more jobs are given than are allotted" "$(tail -n 2 "$room/out" | tr '\n' ' ')"
     fi
-    catches_in_tree "a job more than is allotted" "^of 4 allotted 5 were given" build/build.py 's/self.shared = .*/self.shared = 1/' \
-        give_jobs
+    catches_in_tree "a job more than is allotted" "^of 1 allotted 2 were given" build/build.py \
+        's/left = self.processors - /left = 1 + self.processors - /' give_jobs
     lay_out_crates
     builds "a program and its library are proved and built" 0 "high low " 7
     builds "what is built isn't built again" 0 "" 7

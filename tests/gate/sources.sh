@@ -101,6 +101,8 @@ Table::new(
 .shared.join_seat::<Gathers>(
 .shared.load::<Shows<M,K>>(
 .shared.load::<ShowsAll<M,K>>(
+.shared.store::<Says>(
+.shared.load::<Showing<Looks<L>,M,K>>(
 close(
 close_with(
 slot_mut(

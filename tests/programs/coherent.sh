@@ -45,7 +45,7 @@ coheres "a record that nobody wrote" 1 'incoherent unwritten 2
 line 2: {"who":0,"kind":"read","begin":1,"end":2,"record":7}
 Line 2 gave a record that is neither the opening nor written.
 1 operations, 0 unfinished, 2 records, 1 of them read; no last line `done`' "$(these_lines "$header" '{"who":0,"kind":"read","begin":1,"end":2,"record":7}')"
-coheres "another key" 3 'fsr: line 3: law of key' "$(these_lines "$header" '{"who":0,"kind":"write","begin":1,"end":2,"record":7,"key":"a"}' \
+coheres "another key" 3 'fsr: line 3: law of key; such a log has one key, that of its first operation' "$(these_lines "$header" '{"who":0,"kind":"write","begin":1,"end":2,"record":7,"key":"a"}' \
     '{"who":0,"kind":"write","begin":3,"end":4,"record":8,"key":"b"}')"
 coheres "a record that is written twice" 3 'fsr: line 3: writes the record of line 2' "$(these_lines "$header" \
     '{"who":0,"kind":"write","begin":1,"end":2,"record":7}' '{"who":1,"kind":"write","begin":1,"end":2,"record":[7]}')"

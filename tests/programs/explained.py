@@ -144,7 +144,7 @@ def faults_by_hand(tool, folder):
         found, wanted = explain(tool, f"{folder}/log", *words), wanted_of(text, words, said)
         if found != wanted:
             faults.append(f"{text}{words}: {found} in place of {wanted}")
-    return faults + faults_together(tool, f"{folder}/log") + faults_of_none(tool, f"{folder}/none")
+    return faults + faults_together(tool, f"{folder}/log") + faults_of_none(tool, f"{folder}/none") + faults_of_long(tool, f"{folder}/log")
 
 
 def faults_together(tool, path):
@@ -165,6 +165,14 @@ def faults_of_none(tool, path):
     if (status, out) != (5, "") or not err.endswith("none: No such file or directory\n"):
         return [f"no file: status {status}: {out}{err}"]
     return []
+
+
+def faults_of_long(tool, path):
+    """How far a long log is read is told on standard error."""
+    with open(path, "w", encoding="utf-8") as file:
+        file.write(WRITES + op(1, "read", 61, 62, [3, 73]) * 100_000)
+    found, wanted = explain(tool, path), (0, NONE, "explain: 100000 lines are read\n")
+    return [] if found == wanted else [f"a long log: {found} in place of {wanted}"]
 
 
 def faults_of_recorded(tool, path):

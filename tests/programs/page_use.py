@@ -45,7 +45,7 @@ LINED = CROSSED.replace('"ops"', '"lines":[2,3,5,7,11,13],"ops"')
 # What the page says of a log is to begin so, by the examples.
 SAID = {
     "lines_stale": "Line 3 gave the opening",
-    "lines_crossed": "Each of two records has to stand before the other: line 5 ended at 19,",
+    "lines_crossed": "Lines 5 and 6 are of one record, lines 7 and 4 of another,",
     "lines_limit": "Of the writes at most 2 can stand before line 4",
     "lines_lost": "From time 5 to time 12 no order of these is lawful, whatever the register held before. Each other",
     "lines_cas": "Some order gives all these answers",

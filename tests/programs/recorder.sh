@@ -339,7 +339,7 @@ test_planted() {
     test_planted_live
     plants old '^unlawful (stale|crossed) [0-9]' 1
     plants lost '^unlawful unwritten [0-9]' 1
-    plants misspelt 'line [0-9]+: missing end$' 3
+    plants misspelt 'line [0-9]+: missing end; ' 3
     plants returned 'line 2: not JSON$' 3
     plants short 'line [0-9]+: law of ops$' 3
 }

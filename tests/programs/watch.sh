@@ -91,8 +91,27 @@ told_at_once "a lost log, at its floor" 1 "$lost_3" '{"kind":"floor","begin":7}'
 told_at_once "nothing at a floor that is too low" 1 "$lost_3" '{"kind":"floor","begin":9}' "$header" "$write_5" "$stale_0" '{"kind":"floor","begin":6}'
 told_at_once "a fault, at its line" 3 'fsr: line 3: missing swapped' '{"who":1,"kind":"cas","begin":4,"end":6,"record":0,"from":0}' "$header" "$write_5"
 told_at_once "a line below the floor" 3 'fsr: line 4: begins below the floor of line 3' "$stale_0" "$header" "$write_5" '{"kind":"floor","begin":5}'
-told_at_once "a line behind the end" 3 'fsr: line 3: shape of kind' "$stale_0" "$header" "$write_5" '{"kind":"done","ops":1}' '' ' '
+told_at_once "a line behind the end" 3 'fsr: line 3: shape of kind; a `cas` needs `repeats` in the header, and `done` is the last line' "$stale_0" "$header" "$write_5" '{"kind":"done","ops":1}' '' ' '
 told_at_once "a header that is none" 3 'fsr: line 1: kind' '{"kind":"log"}'
+
+# Tasks that the header names: the least of their floors counts, which is at most the end of what each did last.
+named='{"kind":"lines","opening":0,"repeats":true,"who":[0,1]}'
+floor_0='{"kind":"floor","begin":8,"who":0}'
+told_at_once "a lost log, where the last task's floor rises" 1 "$lost_3" '{"kind":"floor","begin":7,"who":1}' "$named" "$write_5" "$stale_0" "$floor_0"
+told_at_once "a lost log, where the last task's floor rises by an operation" 1 "$lost_3" \
+    '{"who":1,"kind":"read","begin":6,"end":7,"record":5}' "$named" "$write_5" "$stale_0" "$floor_0"
+told_at_once "a lost log, at a floor of all" 1 "$lost_3" '{"kind":"floor","begin":7}' "$named" "$write_5" "$stale_0" "$floor_0"
+told_at_once "a lost log, as the last task is over" 1 "$lost_3" '{"kind":"floor","begin":18446744073709551615,"who":0}' "$named" "$write_5" "$stale_0" \
+    '{"who":1,"kind":"write","begin":7,"end":7,"record":0}'
+told_at_once "a floor of a task where none is named" 1 "$lost_3" "$floor_0" "$header" "$write_5" "$stale_0"
+told_at_once "an empty array of tasks" 1 "$lost_3" "$floor_0" '{"kind":"lines","opening":0,"who":[]}' "$write_5" "$stale_0"
+told_at_once "a line below the floor of its task" 3 'fsr: line 4: begins below the floor of line 3' \
+    '{"who":0,"kind":"read","begin":7,"end":9,"record":5}' "$named" "$write_5" "$floor_0"
+told_at_once "a line before the end of its task's last" 3 'fsr: line 3: begins below the floor of line 2' \
+    '{"who":0,"kind":"read","begin":1,"end":9,"record":5}' "$named" "$write_5"
+told_at_once "a task that isn't named" 3 'fsr: line 3: law of who' '{"who":2,"kind":"read","begin":3,"end":9,"record":5}' "$named" "$write_5"
+told_at_once "a floor of a task that isn't named" 3 'fsr: line 3: law of who' '{"kind":"floor","begin":9,"who":2}' "$named" "$write_5"
+told_at_once "tasks of another shape" 3 'fsr: line 1: shape of who' '{"kind":"lines","opening":0,"who":[0,"1"]}'
 
 watches "a lost log at its end" 1 "$lost_3" "$(log "$header" "$write_5" "$stale_0")"
 watches "a header without repeats" 1 "$lost_3" "$(log '{"kind":"lines","opening":0}' "$write_5" "$stale_0")"
@@ -129,6 +148,10 @@ watches "counts, out of order, with blank lines" 0 'lawful
 watches "an empty input" 3 'fsr: line 1: not JSON' ''
 watches "a floor without its moment" 3 'fsr: line 2: missing begin' "$(log "$header" '{"kind":"floor"}')"
 watches "a floor of another shape" 3 'fsr: line 2: shape of begin' "$(log "$header" '{"kind":"floor","begin":-1}')"
+watches "a floor whose task has another shape" 3 'fsr: line 2: shape of who' "$(log "$header" '{"kind":"floor","begin":1,"who":"0"}')"
+watches "operations of named tasks that touch, and floors of tasks one of which has none" 0 'lawful
+3 operations, 1 unfinished, 0 uncertain, 1 floors; no last line `done`' "$(log "$named" "$write_5" '{"who":0,"kind":"read","begin":2,"end":3,"record":5}' \
+    "$floor_0" '{"who":1,"kind":"write","begin":0,"end":null,"record":0}')"
 watches "too few operations" 3 'fsr: line 3: law of ops' "$(log "$header" "$write_5" '{"kind":"done","ops":2}')"
 watches "too many configurations" 7 'fsr: line 4: too many configurations' "$(log "$header" '{"who":0,"kind":"maybe","begin":1,"end":3,"record":5}' \
     '{"who":1,"kind":"maybe","begin":1,"end":3,"record":6}' '{"kind":"floor","begin":4}')" --budget 1
@@ -250,6 +273,8 @@ else
     wanted_status=1
     echo "$lost_3" >"$room/wanted"
     refuse_each fsr "$room/lost.jsonl" watch
+    log "$named" "$write_5" "$stale_0" "$floor_0" '{"kind":"floor","begin":7,"who":1}' >"$room/named.jsonl"
+    refuse_each fsr "$room/named.jsonl" watch
     wanted_status=0
     printf 'lawful\n3 operations, 1 unfinished, 0 uncertain, 1 floors; no last line `done`\n' >"$room/wanted"
     refuse_each fsr "$room/lawful.jsonl" watch
@@ -289,6 +314,13 @@ compares_wrongly() {
     compares_watches a 300 1 "$room/wrong_watch" watch
 }
 
+# The same over the built program where the header names no task: each floor is of all then.
+compares_floors_of_all() {
+    printf '#!/bin/sh\nsed "1s/\"who\":/\"whose\":/" | "%s" "$@"\n' "$PWD/$built/fsr/out/fsr" >"$room/wrong_watch"
+    chmod +x "$room/wrong_watch"
+    compares_watches a 300 1 "$room/wrong_watch" watch
+}
+
 if ! command -v python3 >/dev/null 2>&1; then
     fail "random logs that are watched" "there is no python3"
 elif ! has_program fsr; then
@@ -296,6 +328,7 @@ elif ! has_program fsr; then
 else
     compares_watches "random logs that are watched" 3000 1 "$built/fsr/out/fsr" watch
     compares_watches "random logs of many records" 200 2 --many "$built/fsr/out/fsr" watch
+    catches "a floor of a task that is told as one of all" "the reference:" compares_floors_of_all
     catches "a lost log that is told as lawful" "the reference:" compares_wrongly 's/^unlawful lost.*/lawful/'
     catches "another moment" "the reference:" compares_wrongly 's/is lost at /is lost at 1/'
     catches "another count of floors" "the reference:" compares_wrongly 's/ floors/0 floors/'

@@ -436,7 +436,7 @@ answers_once() {
         *)
             if head -n 1 "$document" | grep -q '"repeats":true'; then
                 refused=$((refused + 1))
-                printf 'fsr: line 1: law of repeats\n3\n' >"$room/wanted"
+                printf 'fsr: line 1: law of repeats; `fsr order` without `--coherent` takes it\n3\n' >"$room/wanted"
             fi
             ;;
         esac

@@ -15,6 +15,8 @@ these words, and of such ones the latest. A word of no write may be the first by
 writes: the last that had ended before the operation began, and those that ran with it. None of this is proved, and none of it is needed for
 the verdict.
 
+Of a long log standard error tells how many lines are read.
+
 Status 3: this is no log, or one whose records repeat, or has no such line; 5: it can't be read or written.
 """
 
@@ -27,6 +29,8 @@ import lines
 
 # So many writes that ran beside an operation are told.
 MOST = 4
+# Behind so many lines that were read standard error tells it.
+PIECE = 100_000
 NEVER = float("inf")
 NEEDED = {"who", "kind", "begin", "end", "record"}
 
@@ -66,9 +70,17 @@ def row_of(line, text):
     return row
 
 
+def rows_of(path):
+    for line, text in enumerate(lines.text_of_file(path).split("\n"), 1):
+        if text.strip():
+            yield line, row_of(line, text)
+        if line % PIECE == 0:
+            print(f"explain: {line} lines are read", file=sys.stderr, flush=True)
+
+
 class Log:
     def __init__(self, path):
-        rows = ((line, row_of(line, text)) for line, text in enumerate(lines.text_of_file(path).split("\n"), 1) if text.strip())
+        rows = rows_of(path)
         opening = opening_of(next(rows, (1, {}))[1])
         self.ops = {line: operation_of(line, row) for line, row in rows if row.get("kind") not in ("done", "floor")}
         self.writes = [opening, *(it for it in self.ops.values() if it.kind == "write")]

@@ -4,7 +4,7 @@ use Rattle.std.proofs.Common.{◌≡◌, ℕ, zero, suc, ◌+◌, ◌-◌, ◌*�
 use Rattle.std.proofs.Common.{Option, Some, refl, sym, ◌∙◌, ap, subst, arith, ◌⊎◌, inl, inr, add-mul}
 use Rattle.std.proofs.Common.{Bool, None, true, false}
 use Rattle.std.specs.Prelude.{if◌then◌else◌, is_some, IsSomeAnd, ◌&&◌, ◌||◌}
-use Rattle.std.proofs.lemmas.Bool.{cases_eq, cases_lt, cases_order}
+use Rattle.std.proofs.lemmas.Bool.{cases_Bool, cases_eq, cases_lt, cases_order}
 use Rattle.std.proofs.lemmas.Option.{none-some, same_Some, slice_get_within}
 use Rattle.history_core.specs.declared.history.Op.{Op}
 use Rattle.history_core.specs.Orders.{IsAtomicOrder, is_write, RefusesLawfully}
@@ -20,14 +20,14 @@ use Rattle.matrix_core.specs.Listings.{IsInOrder, is_listed}
 use Rattle.matrix_core.proofs.lines.Others.{other_differs, other_inside, other_reached}
 use Rattle.matrix_core.proofs.lists.Elements.{get_exists}
 use Rattle.matrix_core.proofs.orders.Terms.{term_atomic, term_lawful}
-use Rattle.board_history.specs.BoardRuns.{Called, Did, IsRegister, own_before, records, Sees, told}
-use Rattle.board_history.specs.RunsSoFar.{AreFirstOf, AreReadsSoFar, AreWritesSoFar, end_of, IsBoardRunSoFar}
+use Rattle.board_history.specs.BoardRuns.{Called, Did, end_of, IsRegister, own_before, records, Sees, told, WasTold}
+use Rattle.board_history.specs.RunsSoFar.{AreFirstOf, AreReadsSoFar, AreWritesSoFar, IsBoardRunSoFar}
 use Rattle.board_history.specs.HistoriesSoFar.{IsOpOfCallSoFar, IsHistorySoFar, IsUnchosenCall, StandIfChosen}
 use Rattle.board_history.proofs.Rising.{first_least, greatest_each, greatest_first, greatest_is, own_next, own_rises, own_zero}
 use Rattle.board_history.proofs.Sorts.{sort, sort_in, Strict, strict_sort}
-use Rattle.board_history.proofs.Timed.{at, at_least, at_rises, at_tells, begin_once, begins, chooses_at, ends, lasts, line, times_at_most}
-use Rattle.board_history.proofs.Timed.{times_once, times_rise}
-use Rattle.board_history.proofs.Told.{held, IsTold, one_if, told_by, told_next, told_rises}
+use Rattle.board_history.proofs.Timed.{at, at_least, at_rises, at_tells, begin_once, begins, chooses_at, ends, in_turn, lasts, line}
+use Rattle.board_history.proofs.Timed.{times_at_most, times_once, times_rise}
+use Rattle.board_history.proofs.Told.{one_if, told_by, told_next, told_rises}
 
 end_there : (o : Option ℕ) (x : ℕ) → IsSomeAnd o (λ z. z < x) → (end : ℕ) × (o ≡ Some end) × (end < x)
 end_there None x h = absurd h
@@ -78,13 +78,13 @@ module _ {V : Type 0} (width n limit : ℕ) (opening : V) (steps : List ℕ) (di
     chose : (s : ℕ) → slice_get (did j).times (at width n limit opening steps did run j q + ((n - 1) * width - 1)) ≡ Some s → s < t
 
   -- the answer that call k of process i had of the process number e of the others: the opening, or told by a call that had chosen; and
-  -- what that process had after a call that had ended isn't above it
+  -- what that process told in a call that had ended isn't above it
   record IsHeard (i k e : ℕ) (c : Called V) (answer : Stamped V) : Type 0 where
     from : (answer ≡ first)
         ⊎ ((q : ℕ) × (d : Called V)
         × ((t : ℕ) → slice_get (did i).times (at width n limit opening steps did run i k + ((n - 1) * width - 1)) ≡ Some t →
         IsSource (other i e) q d answer t))
-    above : (m end : ℕ) (d : Called V) → slice_get (did (other i e)).calls m ≡ Some d →
+    above : (m end : ℕ) (d : Called V) → slice_get (did (other i e)).calls m ≡ Some d → d.tells ≡ true →
         end_of width n (did (other i e)) m d ≡ Some end → end < c.begin → IsAtMost d.chosen.stamp answer.stamp
 
   module _ (i k e : ℕ) (c : Called V) (li : i < n) (le : e + 1 < n) (made : slice_get (did i).calls k ≡ Some c) (answer : Stamped V)
@@ -183,89 +183,63 @@ module _ {V : Type 0} (width n limit : ℕ) (opening : V) (steps : List ℕ) (di
               },
             )
 
-        above : (m end : ℕ) (d : Called V) → slice_get (did j).calls m ≡ Some d → end_of width n (did j) m d ≡ Some end → end < c.begin →
-            IsAtMost d.chosen.stamp answer.stamp
-        above m end d at_d at_end before =
-            let lm : m < length (did j).calls = slice_get_within (did j).calls m d at_d in
-            let has : own_at j (suc m) ≡ d.chosen = own_next first (did j).calls m d at_d in
-            let is : slice_get (first ∷ records (did j).calls) (told (did j).calls (suc m)) ≡ Some (own_at j (suc m)) =
-            held first (did j).calls (run.each j lj).silent (suc m) (omega arith) in
-            subst (λ z. IsAtMost z.stamp answer.stamp) has (by_number (told (did j).calls (suc m)) refl is)
+        above : (m end : ℕ) (d : Called V) → slice_get (did j).calls m ≡ Some d → d.tells ≡ true →
+            end_of width n (did j) m d ≡ Some end → end < c.begin → IsAtMost d.chosen.stamp answer.stamp
+        above m end d at_d tells at_end before = by_answer numbered.0 refl late
           where
             -- the write that told it had ended before the read began
-            late : (x : ℕ) → told (did j).calls (suc m) ≡ suc x → (w : IsTold (did j).calls x (own_at j (suc m))) → x < numbered.0
-            late x count w =
-                let r : w.number < suc m = elim (cases_lt w.number (suc m)) [
-                  | inl l ↦ l
-                  | inr ge ↦
-                      let t : told (did j).calls (suc m) ≤ told (did j).calls w.number = told_rises (did j).calls (suc m) w.number ge in
-                      let u : told (did j).calls w.number ≡ x = w.count in absurd (omega arith)
-                ] in
-                let lw : w.number < length (did j).calls = slice_get_within (did j).calls w.number w.call w.there in
-                let next : told (did j).calls (suc w.number) ≡ told (did j).calls w.number + 1 =
-                told_next (did j).calls w.number w.call w.there ∙ ap (λ b. told (did j).calls w.number + one_if b) w.tells in
+            late : told (did j).calls m < numbered.0
+            late =
                 let some : 0 < width = run.size.2 in
                 let after = write_after in
                 let inside = write_inside in
                 let fin : slice_get (did j).times (at width n limit opening steps did run j (suc m) - 1) ≡ Some end =
                 ends width n limit opening steps did run j m d at_d ∙ at_end in
-                let full : at width n limit opening steps did run j (suc w.number)
-                ≡ at width n limit opening steps did run j w.number + ((n - 1) * width + (n - 1) * width) =
-                at_tells width n limit opening steps did run j w.number w.call w.there w.tells in
-                let up : at width n limit opening steps did run j (suc w.number) ≤ at width n limit opening steps did run j (suc m) =
-                at_rises width n limit opening steps did run j (suc w.number) (suc m) (omega arith) in
-                let before_end : at width n limit opening steps did run j w.number + ((n - 1 + back.0) * width + (width - 1))
+                let full : at width n limit opening steps did run j (suc m)
+                ≡ at width n limit opening steps did run j m + ((n - 1) * width + (n - 1) * width) =
+                at_tells width n limit opening steps did run j m d at_d tells in
+                let before_end : at width n limit opening steps did run j m + ((n - 1 + back.0) * width + (width - 1))
                 ≤ at width n limit opening steps did run j (suc m) - 1 = omega arith in
                 let v = there_before (did j).times
-                (at width n limit opening steps did run j w.number + ((n - 1 + back.0) * width + (width - 1)))
+                (at width n limit opening steps did run j m + ((n - 1 + back.0) * width + (width - 1)))
                 (at width n limit opening steps did run j (suc m) - 1) end fin before_end in
-                let ended : slice_get ((did j).writes i).ends x ≡ Some v.0 =
-                sym (ap (slice_get ((did j).writes i).ends) w.count) ∙ wrote.ended w.number w.call w.there w.tells ∙ v.1 in
+                let ended : slice_get ((did j).writes i).ends (told (did j).calls m) ≡ Some v.0 = wrote.ended m d at_d tells ∙ v.1 in
                 let column : at width n limit opening steps did run i k + e * width
                 ≤ at width n limit opening steps did run i k + ((n - 1) * width - 1) = let r = read_inside in omega arith in
                 let b = there_before (did i).times (at width n limit opening steps did run i k + e * width)
                 (at width n limit opening steps did run i k + ((n - 1) * width - 1)) chose.0 chose.1 column in
                 let one : v.0 ≤ end = times_at_most width n limit opening steps did run j
-                (at width n limit opening steps did run j w.number + ((n - 1 + back.0) * width + (width - 1)))
+                (at width n limit opening steps did run j m + ((n - 1 + back.0) * width + (width - 1)))
                 (at width n limit opening steps did run j (suc m) - 1) v.0 end lj v.1 fin before_end in
                 let two : c.begin ≤ b.0 = times_at_most width n limit opening steps did run i (at width n limit opening steps did run i k)
                 (at width n limit opening steps did run i k + e * width) c.begin b.0 li
                 (begins width n limit opening steps did run i k c li made) b.1 (omega arith) in
-                of.late x (to_before (slice_get ((did j).writes i).ends x) (slice_get ((did i).reads j).begins k) v.0 ended
+                of.late (told (did j).calls m)
+                (to_before (slice_get ((did j).writes i).ends (told (did j).calls m)) (slice_get ((did i).reads j).begins k) v.0 ended
                 (λ z h. let same : b.0 ≡ z = same_Some b.0 z (sym (read.begun k lk ∙ b.1) ∙ h) in omega arith))
 
             -- what was told later has no smaller stamp
-            by_answer : (x y : ℕ) → y ≡ numbered.0 → x < y → (w : IsTold (did j).calls x (own_at j (suc m))) →
-                IsAtMost (own_at j (suc m)).stamp answer.stamp
-            by_answer x zero q l w = absurd (omega arith)
-            by_answer x (suc y) q l w =
+            by_answer : (y : ℕ) → y ≡ numbered.0 → told (did j).calls m < y → IsAtMost d.chosen.stamp answer.stamp
+            by_answer zero q l = absurd (omega arith)
+            by_answer (suc y) q l =
                 let v = told_by (did j).calls y answer (ap (slice_get (first ∷ records (did j).calls)) q ∙ source) in
-                let a : told (did j).calls w.number ≡ x = w.count in
                 let b : told (did j).calls v.number ≡ y = v.count in
                 let next : told (did j).calls (suc v.number) ≡ told (did j).calls v.number + 1 =
                 told_next (did j).calls v.number v.call v.there ∙ ap (λ b. told (did j).calls v.number + one_if b) v.tells in
-                let le : w.number ≤ v.number = elim (cases_lt v.number w.number) [
+                let le : m ≤ v.number = elim (cases_lt v.number m) [
                   | inl less ↦
-                      let t : told (did j).calls (suc v.number) ≤ told (did j).calls w.number =
-                      told_rises (did j).calls (suc v.number) w.number (omega arith) in absurd (omega arith)
+                      let t : told (did j).calls (suc v.number) ≤ told (did j).calls m =
+                      told_rises (did j).calls (suc v.number) m (omega arith) in absurd (omega arith)
                   | inr ge ↦ ge
                 ] in
                 let lv : v.number < length (did j).calls = slice_get_within (did j).calls v.number v.call v.there in
-                let up : IsAtMost (own_at j (suc w.number)).stamp (own_at j (suc w.number + (v.number - w.number))).stamp =
-                own_rises width n limit opening steps did run j (suc w.number) (v.number - w.number) lj (omega arith) in
-                let z : suc w.number + (v.number - w.number) ≡ suc v.number = omega arith in
-                let here : own_at j (suc w.number) ≡ own_at j (suc m) = own_next first (did j).calls w.number w.call w.there ∙ w.chosen in
-                let there' : own_at j (suc w.number + (v.number - w.number)) ≡ answer =
+                let up : IsAtMost (own_at j (suc m)).stamp (own_at j (suc m + (v.number - m))).stamp =
+                own_rises width n limit opening steps did run j (suc m) (v.number - m) lj (omega arith) in
+                let z : suc m + (v.number - m) ≡ suc v.number = omega arith in
+                let here : own_at j (suc m) ≡ d.chosen = own_next first (did j).calls m d at_d in
+                let there' : own_at j (suc m + (v.number - m)) ≡ answer =
                 ap (own_at j) z ∙ own_next first (did j).calls v.number v.call v.there ∙ v.chosen in
                 subst (λ (z : Stamped V × Stamped V). IsAtMost z.0.stamp z.1.stamp) (λ p. (here p, there' p)) up
-
-            by_number : (x : ℕ) → told (did j).calls (suc m) ≡ x →
-                slice_get (first ∷ records (did j).calls) x ≡ Some (own_at j (suc m)) → IsAtMost (own_at j (suc m)).stamp answer.stamp
-            by_number zero count is = subst (λ z. IsAtMost z.stamp answer.stamp)
-                (same_Some first (own_at j (suc m)) is) (first_least answer.stamp)
-            by_number (suc x) count is =
-                let w = told_by (did j).calls x (own_at j (suc m)) is in
-                by_answer x numbered.0 refl (late x count w) w
 
   module _ (ops : List (Op V)) (stamps : List (Option Stamp)) (h : IsHistorySoFar width n did ops stamps) where
     -- an operation as a call, with the time at which it chose
@@ -558,20 +532,72 @@ module _ {V : Type 0} (width n limit : ℕ) (opening : V) (steps : List ℕ) (di
       own_past y l who = above_own y.number y.is.call (subst (λ z. slice_get (did z).calls y.number ≡ Some y.is.call) who y.is.made)
           (smaller y l who)
 
-      earlier_past : (y : Made) (end : ℕ) → y.time < x.time → end_of width n (did y.op.who) y.number y.is.call ≡ Some end → end < c.begin →
-          IsAtMost y.is.call.chosen.stamp c.seen.stamp
-      earlier_past y end l at_end before = elim (cases_eq y.op.who i) [
-        | inl who ↦ own_past y l who
+      -- a call of the same process that ended before this one began has a smaller number
+      ended_smaller : (m end : ℕ) (d : Called V) → slice_get (did i).calls m ≡ Some d → end_of width n (did i) m d ≡ Some end →
+          end < c.begin → m < k
+      ended_smaller m end d e at_end before = elim (cases_lt m k) [
+        | inl less ↦ less
+        | inr ge ↦
+            let up : at width n limit opening steps did run i k ≤ at width n limit opening steps did run i m =
+            at_rises width n limit opening steps did run i k m ge in
+            let on : at width n limit opening steps did run i m + (n - 1) * width ≤ at width n limit opening steps did run i (suc m) =
+            at_least width n limit opening steps did run i m d e in
+            let p : 0 < (n - 1) * width = line width n limit opening steps did run in
+            let r : c.begin ≤ end = times_at_most width n limit opening steps did run i (at width n limit opening steps did run i k)
+            (at width n limit opening steps did run i (suc m) - 1) c.begin end li
+            (begins width n limit opening steps did run i k c li x.is.made)
+            (ends width n limit opening steps did run i m d e ∙ at_end) (omega arith) in
+            absurd (omega arith)
+      ]
+
+      -- what was told by a call that ended before this one began
+      told_past : (j m end : ℕ) (d : Called V) → j < n → slice_get (did j).calls m ≡ Some d → d.tells ≡ true →
+          end_of width n (did j) m d ≡ Some end → end < c.begin → IsAtMost d.chosen.stamp c.seen.stamp
+      told_past j m end d lj e tells at_end before = elim (cases_eq j i) [
+        | inl who ↦
+            let here : slice_get (did i).calls m ≡ Some d = subst (λ z. slice_get (did z).calls m ≡ Some d) who e in
+            above_own m d here
+            (ended_smaller m end d here (subst (λ z. end_of width n (did z) m d ≡ Some end) who at_end) before)
         | inr ne ↦
-            let o = other_reached n i y.op.who li y.is.who ne in
+            let o = other_reached n i j li lj ne in
             let le : o.0 + 1 < n = o.1 in
             let a = get_exists sees.answers o.0 (let z = sees.each in omega arith) in
             let v : IsHeard i k o.0 c a.0 = answer_of o.0 a.0 a.1 in
-            at_most_trans y.is.call.chosen.stamp a.0.stamp c.seen.stamp
-            (v.above y.number end y.is.call (subst (λ z. slice_get (did z).calls y.number ≡ Some y.is.call) (sym o.2) y.is.made)
-            (subst (λ z. end_of width n (did z) y.number y.is.call ≡ Some end) (sym o.2) at_end) before)
+            at_most_trans d.chosen.stamp a.0.stamp c.seen.stamp
+            (v.above m end d (subst (λ z. slice_get (did z).calls m ≡ Some d) (sym o.2) e) tells
+            (subst (λ z. end_of width n (did z) m d ≡ Some end) (sym o.2) at_end) before)
             (subst (λ z. IsAtMost a.0.stamp z.stamp) (sym sees.greatest) (greatest_each (own_at i k) sees.answers o.0 a.0 a.1))
       ]
+
+      -- what a call chose that ended before this one began: it told it, or found that it was told, or had it before
+      past_by : (j m end : ℕ) (d : Called V) → j < n → slice_get (did j).calls m ≡ Some d →
+          end_of width n (did j) m d ≡ Some end → end < c.begin → IsAtMost (own_at j m).stamp c.seen.stamp →
+          IsAtMost d.chosen.stamp c.seen.stamp
+      past_by j m end d lj e at_end before own = elim (cases_Bool d.tells) [
+        | inl tells ↦ told_past j m end d lj e tells at_end before
+        | inr untold ↦ elim (cases_Bool d.finds) [
+          | inl finds ↦
+              let w : WasTold width n did d.chosen.stamp end = run.finds j m end d lj e untold finds at_end in
+              let l : w.end < end = w.before in
+              at_most_trans d.chosen.stamp w.call.chosen.stamp c.seen.stamp w.not_below
+              (told_past w.who w.number w.end w.call w.inside w.there w.tells w.ended (omega arith))
+          | inr silent ↦ subst (λ z. IsAtMost z.stamp c.seen.stamp) (sym ((run.each j lj).silent m d e untold silent)) own
+        ]
+      ]
+
+      earlier_past : (j m end : ℕ) (d : Called V) → j < n → slice_get (did j).calls m ≡ Some d →
+          end_of width n (did j) m d ≡ Some end → end < c.begin → IsAtMost d.chosen.stamp c.seen.stamp
+      earlier_past j zero end d lj e at_end before = past_by j zero end d lj e at_end before
+          (subst (λ z. IsAtMost z.stamp c.seen.stamp) (sym (own_zero first (did j).calls)) (first_least c.seen.stamp))
+      earlier_past j (suc m) end d lj e at_end before =
+          let lm : suc m < length (did j).calls = slice_get_within (did j).calls (suc m) d e in
+          let b = get_exists (did j).calls m (omega arith) in
+          let t = in_turn width n limit opening steps did run j m (suc m) b.0 d lj b.1 e (omega arith) in
+          let up : t.0 < d.begin = t.2 in
+          let on : d.begin ≤ end = lasts width n limit opening steps did run j (suc m) end d lj e at_end in
+          past_by j (suc m) end d lj e at_end before
+          (subst (λ z. IsAtMost z.stamp c.seen.stamp) (sym (own_next first (did j).calls m b.0 b.1))
+          (earlier_past j m t.0 b.0 lj b.1 t.1 (omega arith)))
 
       -- what precedence of two choices says of their calls
       ended_before : (a b : Made) → IsEarlier ops (choice a) (choice b) →
@@ -617,7 +643,8 @@ module _ {V : Type 0} (width n limit : ℕ) (opening : V) (steps : List ℕ) (di
             let e : d ≡ choice y.0 = y.2 in
             let l : y.0.time < x.time = s.0 y.0 y.1 in
             subst (λ z. IsAtMost z.stamp c.seen.stamp) (sym e)
-            (let b = ended_before y.0 x (subst (λ z. IsEarlier ops z (choice x)) e w) in earlier_past y.0 b.0 l b.1 b.2);
+            (let b = ended_before y.0 x (subst (λ z. IsEarlier ops z (choice x)) e w) in
+            earlier_past y.0.op.who y.0.number b.0 y.0.is.call y.0.is.who y.0.is.made b.1 b.2);
         chosen = subst (λ z. ChoosesByKind limit (record (choice x) { kind = z }) z c.seen.stamp c.seen.item) (sym x.is.kind)
             ((run.each i li).chooses k x.place c x.is.made);
         not_later = λ d m w.

@@ -30,14 +30,16 @@ not_both true t f = cc
 not_both false t f = cc
 
 -- an access of a call is within its steps
-access_within : (width n access : ℕ) (tells : Bool) → (tells ≡ true → access < (n - 1) + (n - 1)) → (tells ≡ false → access < n - 1) →
-    access * width + width ≤ steps_of_call width n tells
-access_within width n access true l m =
+access_within : (width n access : ℕ) (tells finds : Bool) → (tells ≡ true → access < (n - 1) + (n - 1)) →
+    (tells ≡ false → access < n - 1) → access * width + width ≤ steps_of_call width n tells finds
+access_within width n access true finds l m =
     let r : access * width + width ≤ ((n - 1) + (n - 1)) * width = later_operation width access ((n - 1) + (n - 1)) (l refl) in
     let s : ((n - 1) + (n - 1)) * width ≡ (n - 1) * width + (n - 1) * width = add-mul (n - 1) (n - 1) width in
     omega arith
-access_within width n access false l m =
-    let r : access * width + width ≤ (n - 1) * width = later_operation width access (n - 1) (m refl) in omega arith
+access_within width n access false finds l m =
+    let r : access * width + width ≤ (n - 1) * width = later_operation width access (n - 1) (m refl) in
+    let c : (n - 1) * width ≤ steps_of_call width n false finds = column_steps width n false finds in
+    omega arith
 
 module _ {V : Type 0} (width n : ℕ) (old new : Did V) (call : Called V) (steps : List ℕ) (calls : new.calls ≡ old.calls ++ call ∷ [])
     (times : new.times ≡ old.times ++ steps) (long : length old.times ≡ steps_before width n old.calls (length old.calls)) where
@@ -51,11 +53,11 @@ module _ {V : Type 0} (width n : ℕ) (old new : Did V) (call : Called V) (steps
   told_same k l = ap (λ cs. told cs k) calls ∙ told_stays old.calls call k l
 
   -- a step of an earlier call stays where it is, and one of the last call follows
-  earlier : (k at : ℕ) (c : Called V) → slice_get old.calls k ≡ Some c → at < steps_of_call width n c.tells →
+  earlier : (k at : ℕ) (c : Called V) → slice_get old.calls k ≡ Some c → at < steps_of_call width n c.tells c.finds →
       slice_get new.times (steps_before width n new.calls k + at) ≡ slice_get old.times (steps_before width n old.calls k + at)
   earlier k at c e la =
       let l : k < length old.calls = slice_get_within old.calls k c e in
-      let next : steps_before width n old.calls (suc k) ≡ steps_before width n old.calls k + steps_of_call width n c.tells =
+      let next : steps_before width n old.calls (suc k) ≡ steps_before width n old.calls k + steps_of_call width n c.tells c.finds =
       steps_next width n old.calls k c e in
       let room : steps_before width n old.calls (suc k) ≤ steps_before width n old.calls (length old.calls) =
       steps_rise width n old.calls (suc k) (length old.calls) (omega arith) in
@@ -83,8 +85,8 @@ module _ {V : Type 0} (width n : ℕ) (old new : Did V) (call : Called V) (steps
         (omega arith, omega arith);
   }
     where
-      room : (tells : Bool) → access * width + width ≤ steps_of_call width n tells
-      room tells = access_within width n access tells (λ t. omega arith) (λ t. within)
+      room : (tells finds : Bool) → access * width + width ≤ steps_of_call width n tells finds
+      room tells finds = access_within width n access tells finds (λ t. omega arith) (λ t. within)
 
       begun : (k : ℕ) → k < length new.calls →
           slice_get begins' k ≡ slice_get new.times (steps_before width n new.calls k + access * width)
@@ -92,7 +94,7 @@ module _ {V : Type 0} (width n : ℕ) (old new : Did V) (call : Called V) (steps
         | inl lt ↦
             let x = h.all.0 in
             let c = get_exists old.calls k lt in
-            let r : access * width + width ≤ steps_of_call width n c.0.tells = room c.0.tells in
+            let r : access * width + width ≤ steps_of_call width n c.0.tells c.0.finds = room c.0.tells c.0.finds in
             ap (λ bs. slice_get bs k) is.begun ∙ get_pushed begins is.begin k (λ e. omega arith) ∙ h.begun k lt
             ∙ sym (earlier k (access * width) c.0 c.1 (omega arith))
         | inr ge ↦
@@ -108,7 +110,7 @@ module _ {V : Type 0} (width n : ℕ) (old new : Did V) (call : Called V) (steps
         | inl lt ↦
             let x = h.all.1 in
             let c = get_exists old.calls k lt in
-            let r : access * width + width ≤ steps_of_call width n c.0.tells = room c.0.tells in
+            let r : access * width + width ≤ steps_of_call width n c.0.tells c.0.finds = room c.0.tells c.0.finds in
             ap (λ bs. slice_get bs k) is.ended ∙ get_pushed ends is.end k (λ e. omega arith) ∙ h.ended k lt
             ∙ sym (earlier k (access * width + (width - 1)) c.0 c.1 (omega arith))
         | inr ge ↦
@@ -134,7 +136,7 @@ module _ {V : Type 0} (width n : ℕ) (old new : Did V) (call : Called V) (steps
     begun = λ k c e t. elim (get_pushed_cases old.calls call k c (ap (λ cs. slice_get cs k) (sym calls) ∙ e)) [
       | inl was ↦
           let x = h.all.0 in
-          let r : access * width + width ≤ steps_of_call width n c.tells = room c t in
+          let r : access * width + width ≤ steps_of_call width n c.tells c.finds = room c t in
           let below = told_below k c was t in
           ap (λ bs. slice_get bs (told new.calls k)) is.begun
           ∙ ap (slice_get (begins ++ is.begin ∷ [])) (told_same k (old_inside k c was))
@@ -150,7 +152,7 @@ module _ {V : Type 0} (width n : ℕ) (old new : Did V) (call : Called V) (steps
     ended = λ k c e t. elim (get_pushed_cases old.calls call k c (ap (λ cs. slice_get cs k) (sym calls) ∙ e)) [
       | inl was ↦
           let x = h.all.1 in
-          let r : access * width + width ≤ steps_of_call width n c.tells = room c t in
+          let r : access * width + width ≤ steps_of_call width n c.tells c.finds = room c t in
           let below = told_below k c was t in
           ap (λ bs. slice_get bs (told new.calls k)) is.ended
           ∙ ap (slice_get (ends ++ is.end ∷ [])) (told_same k (old_inside k c was))
@@ -173,8 +175,8 @@ module _ {V : Type 0} (width n : ℕ) (old new : Did V) (call : Called V) (steps
         (omega arith, omega arith);
   }
     where
-      room : (c : Called V) → c.tells ≡ true → access * width + width ≤ steps_of_call width n c.tells
-      room c t = access_within width n access c.tells (λ u. within) (λ f. absurd (not_both c.tells t f))
+      room : (c : Called V) → c.tells ≡ true → access * width + width ≤ steps_of_call width n c.tells c.finds
+      room c t = access_within width n access c.tells c.finds (λ u. within) (λ f. absurd (not_both c.tells t f))
 
       old_inside : (k : ℕ) (c : Called V) → slice_get old.calls k ≡ Some c → k ≤ length old.calls
       old_inside k c was = let l : k < length old.calls = slice_get_within old.calls k c was in omega arith
@@ -195,14 +197,14 @@ module _ {V : Type 0} (width n : ℕ) (old new : Did V) (call : Called V) (steps
   same_writes access begins ends begins' ends' some within silent h b e = record {
     begun = λ k c at t. elim (get_pushed_cases old.calls call k c (ap (λ cs. slice_get cs k) (sym calls) ∙ at)) [
       | inl was ↦
-          let r : access * width + width ≤ steps_of_call width n c.tells = room c t in
+          let r : access * width + width ≤ steps_of_call width n c.tells c.finds = room c t in
           ap (λ bs. slice_get bs (told new.calls k)) b ∙ ap (slice_get begins) (told_same k (old_inside k c was)) ∙ h.begun k c was t
           ∙ sym (earlier k (access * width) c was (omega arith))
       | inr now ↦ absurd (not_both c.tells t (ap (λ (z : Called V). z.tells) (sym now.1) ∙ silent))
     ];
     ended = λ k c at t. elim (get_pushed_cases old.calls call k c (ap (λ cs. slice_get cs k) (sym calls) ∙ at)) [
       | inl was ↦
-          let r : access * width + width ≤ steps_of_call width n c.tells = room c t in
+          let r : access * width + width ≤ steps_of_call width n c.tells c.finds = room c t in
           ap (λ bs. slice_get bs (told new.calls k)) e ∙ ap (slice_get ends) (told_same k (old_inside k c was)) ∙ h.ended k c was t
           ∙ sym (earlier k (access * width + (width - 1)) c was (omega arith))
       | inr now ↦ absurd (not_both c.tells t (ap (λ (z : Called V). z.tells) (sym now.1) ∙ silent))
@@ -217,8 +219,8 @@ module _ {V : Type 0} (width n : ℕ) (old new : Did V) (call : Called V) (steps
         (omega arith, omega arith);
   }
     where
-      room : (c : Called V) → c.tells ≡ true → access * width + width ≤ steps_of_call width n c.tells
-      room c t = access_within width n access c.tells (λ u. within) (λ f. absurd (not_both c.tells t f))
+      room : (c : Called V) → c.tells ≡ true → access * width + width ≤ steps_of_call width n c.tells c.finds
+      room c t = access_within width n access c.tells c.finds (λ u. within) (λ f. absurd (not_both c.tells t f))
 
       old_inside : (k : ℕ) (c : Called V) → slice_get old.calls k ≡ Some c → k ≤ length old.calls
       old_inside k c was = let l : k < length old.calls = slice_get_within old.calls k c was in omega arith
@@ -247,7 +249,7 @@ module _ {V : Type 0} (width n limit : ℕ) (first : Stamped V) (i : ℕ) where
       );
     };
     written = λ e l. ap (λ r. r.items) (h.writes (other i e)) ∙ ap records (sym h.calls);
-    silent = λ k c e t. absurd (none-some c (ap (λ cs. slice_get cs k) (sym h.calls) ∙ e));
+    silent = λ k c e t f. absurd (none-some c (ap (λ cs. slice_get cs k) (sym h.calls) ∙ e));
     sees = λ k c e. absurd (none-some c (ap (λ cs. slice_get cs k) (sym h.calls) ∙ e));
     chooses = λ k place c e. absurd (none-some c (ap (λ cs. slice_get cs k) (sym h.calls) ∙ e));
   }
@@ -261,7 +263,7 @@ module _ {V : Type 0} (width n limit : ℕ) (first : Stamped V) (i : ℕ) where
         let l = h.long in
         let z = m.long in
         let next : steps_before width n new.calls (suc (length old.calls))
-        ≡ steps_before width n new.calls (length old.calls) + steps_of_call width n call.tells =
+        ≡ steps_before width n new.calls (length old.calls) + steps_of_call width n call.tells call.finds =
         steps_next width n new.calls (length old.calls) call at_last in
         let same : steps_before width n new.calls (length old.calls) ≡ steps_before width n old.calls (length old.calls) =
         before_same width n old new call m.steps m.calls m.times h.long (length old.calls) (omega arith) in
@@ -271,7 +273,7 @@ module _ {V : Type 0} (width n limit : ℕ) (first : Stamped V) (i : ℕ) where
       | inl was ↦
           let z : steps_before width n new.calls k + 0 ≡ steps_before width n new.calls k = omega arith in
           let y : steps_before width n old.calls k + 0 ≡ steps_before width n old.calls k = omega arith in
-          ap (slice_get new.times) (sym z) ∙ earlier width n old new call m.steps m.calls m.times h.long k 0 c was (least c.tells)
+          ap (slice_get new.times) (sym z) ∙ earlier width n old new call m.steps m.calls m.times h.long k 0 c was (least c.tells c.finds)
           ∙ ap (slice_get old.times) y ∙ h.begun k c was
       | inr now ↦
           let z : steps_before width n new.calls (length old.calls) ≡ steps_before width n new.calls (length old.calls) + 0 = omega arith in
@@ -280,15 +282,15 @@ module _ {V : Type 0} (width n limit : ℕ) (first : Stamped V) (i : ℕ) where
     ];
     ended = λ k c e. elim (get_pushed_cases old.calls call k c (ap (λ cs. slice_get cs k) (sym m.calls) ∙ e)) [
       | inl was ↦
-          earlier width n old new call m.steps m.calls m.times h.long k (steps_of_call width n c.tells - 1) c was
-          (let s : 0 < steps_of_call width n c.tells = least c.tells in omega arith)
+          earlier width n old new call m.steps m.calls m.times h.long k (steps_of_call width n c.tells c.finds - 1) c was
+          (let s : 0 < steps_of_call width n c.tells c.finds = least c.tells c.finds in omega arith)
           ∙ h.ended k c was
       | inr now ↦
-          ap (λ z. slice_get new.times (steps_before width n new.calls z + (steps_of_call width n c.tells - 1))) now.0
+          ap (λ z. slice_get new.times (steps_before width n new.calls z + (steps_of_call width n c.tells c.finds - 1))) now.0
           ∙ ap (λ (z : Called V). slice_get new.times
-          (steps_before width n new.calls (length old.calls) + (steps_of_call width n z.tells - 1)))
+          (steps_before width n new.calls (length old.calls) + (steps_of_call width n z.tells z.finds - 1)))
           (sym now.1)
-          ∙ last width n old new call m.steps m.calls m.times h.long (steps_of_call width n call.tells - 1) ∙ m.ended
+          ∙ last width n old new call m.steps m.calls m.times h.long (steps_of_call width n call.tells call.finds - 1) ∙ m.ended
           ∙ ap (λ (z : Called V). Some z.end) now.1
     ];
     reads = λ e l.
@@ -316,9 +318,10 @@ module _ {V : Type 0} (width n limit : ℕ) (first : Stamped V) (i : ℕ) where
       | inr silent ↦ ap (λ (w : Written V). w.items) (m.unwritten e l silent)
           ∙ h.written e l ∙ sym (records_same old.calls call silent) ∙ sym (ap records m.calls)
     ];
-    silent = λ k c e t. elim (get_pushed_cases old.calls call k c (ap (λ cs. slice_get cs k) (sym m.calls) ∙ e)) [
-      | inl was ↦ h.silent k c was t ∙ sym (own_same k (let l : k < length old.calls = slice_get_within old.calls k c was in omega arith))
+    silent = λ k c e t f. elim (get_pushed_cases old.calls call k c (ap (λ cs. slice_get cs k) (sym m.calls) ∙ e)) [
+      | inl was ↦ h.silent k c was t f ∙ sym (own_same k (let l : k < length old.calls = slice_get_within old.calls k c was in omega arith))
       | inr now ↦ ap (λ (z : Called V). z.chosen) (sym now.1) ∙ m.silent (ap (λ (z : Called V). z.tells) now.1 ∙ t)
+          (ap (λ (z : Called V). z.finds) now.1 ∙ f)
           ∙ sym (own_same (length old.calls) (omega arith)) ∙ ap (own_before first new.calls) (sym now.0)
     ];
     sees = λ k c e. saw k c e;
@@ -336,10 +339,10 @@ module _ {V : Type 0} (width n limit : ℕ) (first : Stamped V) (i : ℕ) where
       at_last : slice_get new.calls (length old.calls) ≡ Some call
       at_last = ap (λ cs. slice_get cs (length old.calls)) m.calls ∙ get_last old.calls call (length old.calls) refl
 
-      least : (tells : Bool) → 0 < steps_of_call width n tells
-      least tells =
+      least : (tells finds : Bool) → 0 < steps_of_call width n tells finds
+      least tells finds =
           let a : 0 * width + width ≤ (n - 1) * width = later_operation width 0 (n - 1) (omega arith) in
-          let b : (n - 1) * width ≤ steps_of_call width n tells = column_steps width n tells in
+          let b : (n - 1) * width ≤ steps_of_call width n tells finds = column_steps width n tells finds in
           omega arith
 
       own_same : (k : ℕ) → k ≤ length old.calls → own_before first new.calls k ≡ own_before first old.calls k

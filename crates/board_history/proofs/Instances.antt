@@ -12,11 +12,7 @@ use Rattle.history_core.specs.Schedules.{positions}
 use Rattle.board_history.specs.BoardRuns.{AreReads, AreWrites, Called, IsBoardRun, IsProcess, IsRegister, own_before, Sees}
 use Rattle.board_history.specs.BoardRuns.{steps_before, steps_of_call, told}
 use Rattle.board_history.proofs.Growing.{not_both}
-use Rattle.board_history.specs.Instances.{one_call, reads_opening, reads_seven, seven, two_processes, zero_first}
-
--- a call that tells what it chose
-abbrev pub telling : Kind → Stamped ℕ → Stamped ℕ → ℕ → ℕ → Called ℕ
-telling kind seen chosen read written = record { begin = read; end = written; kind = kind; seen = seen; chosen = chosen; tells = true }
+use Rattle.board_history.specs.Instances.{one_call, reads_opening, reads_seven, seven, telling, two_processes, zero_first}
 
 -- the accesses of one call of two steps
 one_access : (kind : Kind) (seen chosen answer : Stamped ℕ) (number read written : ℕ) →
@@ -89,7 +85,7 @@ one_process i kind seen chosen answer number read written sees chooses = record 
   answered = λ e l. refl;
   writes = λ e l. at_write e l;
   written = λ e l. refl;
-  silent = λ k c e t. silent k c e t;
+  silent = λ k c e t f. silent k c e t;
   sees = λ k c e. saw k c e;
   chooses = λ k place c e. chose k place c e;
 }
@@ -100,9 +96,9 @@ one_process i kind seen chosen answer number read written sees chooses = record 
     begun (suc k) c e = absurd (none-some c e)
 
     ended : (k : ℕ) (c : Called ℕ) → slice_get (telling kind seen chosen read written ∷ []) k ≡ Some c →
-        slice_get (read ∷ written ∷ []) (steps_before 1 2 (telling kind seen chosen read written ∷ []) k + (steps_of_call 1 2 c.tells - 1))
-        ≡ Some c.end
-    ended zero c e = ap (λ (z : Called ℕ). slice_get (read ∷ written ∷ []) (0 + (steps_of_call 1 2 z.tells - 1)))
+        slice_get (read ∷ written ∷ [])
+        (steps_before 1 2 (telling kind seen chosen read written ∷ []) k + (steps_of_call 1 2 c.tells c.finds - 1)) ≡ Some c.end
+    ended zero c e = ap (λ (z : Called ℕ). slice_get (read ∷ written ∷ []) (0 + (steps_of_call 1 2 z.tells z.finds - 1)))
         (sym (same_Some (telling kind seen chosen read written) c e))
         ∙ ap (λ (z : Called ℕ). Some z.end) (same_Some (telling kind seen chosen read written) c e)
     ended (suc k) c e = absurd (none-some c e)
@@ -153,9 +149,16 @@ is_fresh = record {
   within = λ step who e. within step who e;
   scheduled = λ i l. scheduled i l;
   each = λ i l. each i l;
+  finds = λ i k end c l e t f. absurd (finds_none i k c l e f);
   registers = λ i j li lj ne. registers i j li lj ne;
 }
   where
+    finds_none : (i k : ℕ) (c : Called ℕ) → i < 2 → slice_get (two_processes reads_seven i).calls k ≡ Some c → c.finds ≡ true → ⊥
+    finds_none zero zero c l e f = not_both c.finds f (ap (λ (z : Called ℕ). z.finds) (sym (same_Some _ c e)))
+    finds_none zero (suc k) c l e f = none-some c e
+    finds_none (suc i) zero c l e f = not_both c.finds f (ap (λ (z : Called ℕ). z.finds) (sym (same_Some _ c e)))
+    finds_none (suc i) (suc k) c l e f = none-some c e
+
     within : (step who : ℕ) → slice_get (0 ∷ 0 ∷ 1 ∷ 1 ∷ []) step ≡ Some who → who < 2
     within zero who e = let z : 0 ≡ who = same_Some 0 who e in omega arith
     within (suc zero) who e = let z : 0 ≡ who = same_Some 0 who e in omega arith

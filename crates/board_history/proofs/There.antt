@@ -22,7 +22,8 @@ use Rattle.matrix_core.proofs.choices.Stamps.{below_itself, below_trans, stamp_s
 use Rattle.board_history.proofs.Members.{append_left, append_right, in_append, in_here}
 use Rattle.matrix_core.proofs.orders.Listing.{get_map_back}
 use Rattle.board_history.specs.BoardRuns.{Called, Did}
-use Rattle.board_history.specs.RunsSoFar.{end_of, IsBoardRunSoFar, unchosen_begin}
+use Rattle.board_history.specs.BoardRuns.{end_of}
+use Rattle.board_history.specs.RunsSoFar.{IsBoardRunSoFar, unchosen_begin}
 use Rattle.board_history.specs.HistoriesSoFar.{IsAtomicRunSoFar, IsOpOfCallSoFar, IsHistorySoFar, IsUnchosenCall}
 use Rattle.board_history.proofs.Atomic.{history_atomic, history_lawful, history_stands}
 use Rattle.board_history.proofs.Timed.{at, at_least, at_rises, begin_once, begins, line, times_once as one_time}
@@ -144,7 +145,15 @@ module _ (stamp_of : ℕ → Stamp) (rank : ℕ → ℕ) where
 module _ {V : Type 0} (width n limit : ℕ) (opening : V) (steps : List ℕ) (did : ℕ → Did V)
     (run : IsBoardRunSoFar width n limit (first_record opening) steps did) where
   abbrev no_call : Called V
-  no_call = record { begin = 0; end = 0; kind = Read; seen = first_record opening; chosen = first_record opening; tells = true }
+  no_call = record {
+    begin = 0;
+    end = 0;
+    kind = Read;
+    seen = first_record opening;
+    chosen = first_record opening;
+    tells = true;
+    finds = false;
+  }
 
   -- a call that has chosen, and one that hasn't
   abbrev call_entry : ℕ → ℕ → Called V → Entry V

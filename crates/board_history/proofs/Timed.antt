@@ -7,8 +7,8 @@ use Rattle.history_core.specs.Schedules.{positions}
 use Rattle.history_core.proofs.Positions.{position_actor, position_once, positions_rise}
 use Rattle.matrix_core.specs.Lines.{first_record}
 use Rattle.matrix_core.proofs.lists.Elements.{get_exists}
-use Rattle.board_history.specs.BoardRuns.{Called, Did, steps_before, steps_of_call}
-use Rattle.board_history.specs.RunsSoFar.{end_of, IsBoardRunSoFar}
+use Rattle.board_history.specs.BoardRuns.{Called, Did, end_of, steps_before, steps_of_call}
+use Rattle.board_history.specs.RunsSoFar.{IsBoardRunSoFar}
 use Rattle.board_history.proofs.Told.{column_steps, line_some, steps_next, steps_rise}
 
 module _ {V : Type 0} (width n limit : ℕ) (opening : V) (steps : List ℕ) (did : ℕ → Did V)
@@ -41,18 +41,19 @@ module _ {V : Type 0} (width n limit : ℕ) (opening : V) (steps : List ℕ) (di
   pub line : 0 < (n - 1) * width
   line = line_some width n run.size.0 run.size.2
 
-  pub at_next : (i k : ℕ) (c : Called V) → slice_get (did i).calls k ≡ Some c → at i (suc k) ≡ at i k + steps_of_call width n c.tells
+  pub at_next : (i k : ℕ) (c : Called V) → slice_get (did i).calls k ≡ Some c →
+      at i (suc k) ≡ at i k + steps_of_call width n c.tells c.finds
   at_next i k c e = steps_next width n (did i).calls k c e
 
   pub at_least : (i k : ℕ) (c : Called V) → slice_get (did i).calls k ≡ Some c → at i k + (n - 1) * width ≤ at i (suc k)
   at_least i k c e =
       let s = at_next i k c e in
-      let l : (n - 1) * width ≤ steps_of_call width n c.tells = column_steps width n c.tells in
+      let l : (n - 1) * width ≤ steps_of_call width n c.tells c.finds = column_steps width n c.tells c.finds in
       omega arith
 
   pub at_tells : (i k : ℕ) (c : Called V) → slice_get (did i).calls k ≡ Some c → c.tells ≡ true →
       at i (suc k) ≡ at i k + ((n - 1) * width + (n - 1) * width)
-  at_tells i k c e t = at_next i k c e ∙ ap (λ b. at i k + steps_of_call width n b) t
+  at_tells i k c e t = at_next i k c e ∙ ap (λ b. at i k + steps_of_call width n b c.finds) t
 
   pub at_rises : (i k m : ℕ) → k ≤ m → at i k ≤ at i m
   at_rises i k m l = steps_rise width n (did i).calls k m l
@@ -69,10 +70,10 @@ module _ {V : Type 0} (width n limit : ℕ) (opening : V) (steps : List ℕ) (di
   pub ends : (i k : ℕ) (c : Called V) → slice_get (did i).calls k ≡ Some c →
       slice_get (did i).times (at i (suc k) - 1) ≡ end_of width n (did i) k c
   ends i k c e =
-      let s : at i (suc k) ≡ at i k + steps_of_call width n c.tells = at_next i k c e in
-      let m : (n - 1) * width ≤ steps_of_call width n c.tells = column_steps width n c.tells in
+      let s : at i (suc k) ≡ at i k + steps_of_call width n c.tells c.finds = at_next i k c e in
+      let m : (n - 1) * width ≤ steps_of_call width n c.tells c.finds = column_steps width n c.tells c.finds in
       let p : 0 < (n - 1) * width = line in
-      ap (slice_get (did i).times) (let q : at i (suc k) - 1 ≡ at i k + (steps_of_call width n c.tells - 1) = omega arith in q)
+      ap (slice_get (did i).times) (let q : at i (suc k) - 1 ≡ at i k + (steps_of_call width n c.tells c.finds - 1) = omega arith in q)
 
   -- a call begins no later than it ends
   pub lasts : (i k end : ℕ) (c : Called V) → i < n → slice_get (did i).calls k ≡ Some c → end_of width n (did i) k c ≡ Some end →

@@ -1,30 +1,31 @@
--- The steps of calls, and what they told: a call that told nothing has the record that was told last.
+-- The steps of calls, and what they told.
 use Rattle.std.proofs.Common.{◌≡◌, ℕ, zero, suc, ◌+◌, ◌-◌, ◌*◌, ◌<◌, ◌≤◌, List, [], ◌∷◌, ◌++◌, length, slice_get, Some}
 use Rattle.std.proofs.Common.{Bool, true, false, refl, sym, ◌∙◌, ap, arith}
 use Rattle.std.specs.Prelude.{if◌then◌else◌}
 use Rattle.std.proofs.lemmas.Option.{none-some, same_Some}
 use Rattle.history_core.proofs.Played.{later_operation}
 use Rattle.matrix_core.specs.declared.stamp.Stamped.{Stamped}
-use Rattle.board_history.specs.BoardRuns.{Called, own_before, records, steps_before, steps_of_call, told}
+use Rattle.board_history.specs.BoardRuns.{Called, records, steps_before, steps_of_call, told}
 
 abbrev pub one_if : Bool → ℕ
 one_if b = if b then 1 else 0
 
 -- a call has at least the steps of its column
-pub column_steps : (width n : ℕ) (tells : Bool) → (n - 1) * width ≤ steps_of_call width n tells
-column_steps width n true = omega arith
-column_steps width n false = omega arith
+pub column_steps : (width n : ℕ) (tells finds : Bool) → (n - 1) * width ≤ steps_of_call width n tells finds
+column_steps width n true finds = omega arith
+column_steps width n false true = omega arith
+column_steps width n false false = omega arith
 
 pub line_some : (width n : ℕ) → 2 ≤ n → 0 < width → 0 < (n - 1) * width
 line_some width n two some = let l : 0 * width + width ≤ (n - 1) * width = later_operation width 0 (n - 1) (omega arith) in omega arith
 
 module _ {V : Type 0} (width n : ℕ) where
   pub steps_next : (calls : List (Called V)) (k : ℕ) (c : Called V) → slice_get calls k ≡ Some c →
-      steps_before width n calls (suc k) ≡ steps_before width n calls k + steps_of_call width n c.tells
+      steps_before width n calls (suc k) ≡ steps_before width n calls k + steps_of_call width n c.tells c.finds
   steps_next [] k c e = absurd (none-some c e)
   steps_next (d ∷ calls) zero c e =
-      let s : steps_of_call width n d.tells ≡ steps_of_call width n c.tells =
-      ap (λ (z : Called V). steps_of_call width n z.tells) (same_Some d c e) in
+      let s : steps_of_call width n d.tells d.finds ≡ steps_of_call width n c.tells c.finds =
+      ap (λ (z : Called V). steps_of_call width n z.tells z.finds) (same_Some d c e) in
       let z : steps_before width n calls 0 ≡ 0 = zero_steps calls in
       omega arith
     where
@@ -32,7 +33,8 @@ module _ {V : Type 0} (width n : ℕ) where
       zero_steps [] = refl
       zero_steps (x ∷ xs) = refl
   steps_next (d ∷ calls) (suc k) c e =
-      let r : steps_before width n calls (suc k) ≡ steps_before width n calls k + steps_of_call width n c.tells = steps_next calls k c e in
+      let r : steps_before width n calls (suc k) ≡ steps_before width n calls k + steps_of_call width n c.tells c.finds =
+      steps_next calls k c e in
       omega arith
 
   -- earlier calls have their steps before
@@ -53,7 +55,7 @@ module _ {V : Type 0} (width n : ℕ) where
   steps_stay [] c zero l = refl
   steps_stay [] c (suc k) l = absurd (omega arith)
   steps_stay (d ∷ calls) c zero l = refl
-  steps_stay (d ∷ calls) c (suc k) l = ap (λ z. steps_of_call width n d.tells + z) (steps_stay calls c k (omega arith))
+  steps_stay (d ∷ calls) c (suc k) l = ap (λ z. steps_of_call width n d.tells d.finds + z) (steps_stay calls c k (omega arith))
 
 module _ {V : Type 0} where
   pub told_next : (calls : List (Called V)) (k : ℕ) (c : Called V) → slice_get calls k ≡ Some c →
@@ -139,22 +141,3 @@ module _ {V : Type 0} where
       by_case true t zero e f = record { number = 0; call = c; there = refl; tells = t; count = refl; chosen = same_Some c.chosen r e }
       by_case true t (suc y) e f = later true t y (suc y) (omega arith) (f y e)
       by_case false t x e f = later false t x x (omega arith) (f x e)
-
-  -- *Held*: what a process has after its first m calls is what was told last, or the opening
-  pub held : (first : Stamped V) (calls : List (Called V)) →
-      ((k : ℕ) (c : Called V) → slice_get calls k ≡ Some c → c.tells ≡ false → c.chosen ≡ own_before first calls k) →
-      (m : ℕ) → m ≤ length calls →
-      slice_get (first ∷ records calls) (told calls m) ≡ Some (own_before first calls m)
-  held first [] silent zero l = refl
-  held first [] silent (suc m) l = absurd (omega arith)
-  held first (c ∷ calls) silent zero l = refl
-  held first (c ∷ calls) silent (suc m) l =
-      by_case c.tells refl (held c.chosen calls (λ k d e t. silent (suc k) d e t) m (omega arith))
-    where
-      by_case : (b : Bool) → c.tells ≡ b → slice_get (c.chosen ∷ records calls) (told calls m) ≡ Some (own_before c.chosen calls m) →
-          slice_get (first ∷ (if b then c.chosen ∷ records calls else records calls)) (one_if b + told calls m)
-          ≡ Some (own_before c.chosen calls m)
-      by_case true t rest = ap (slice_get (first ∷ c.chosen ∷ records calls))
-          (let e : one_if true + told calls m ≡ suc (told calls m) = omega arith in e) ∙ rest
-      by_case false t rest = ap (λ z. slice_get (z ∷ records calls) (one_if false + told calls m)) (sym (silent 0 c refl t))
-          ∙ ap (slice_get (c.chosen ∷ records calls)) (let e : one_if false + told calls m ≡ told calls m = omega arith in e) ∙ rest

@@ -10,10 +10,10 @@ use Rattle.matrix_core.specs.Choices.{Choice, HasChoices, IsAtMost}
 use Rattle.matrix_core.specs.Lines.{first_record}
 use Rattle.matrix_core.specs.Listings.{IsInOrder}
 use Rattle.matrix_core.proofs.lists.Elements.{get_exists}
-use Rattle.board_history.specs.BoardRuns.{Called, Did, IsBoardRun, IsProcess, own_before, steps_before, steps_of_call}
+use Rattle.board_history.specs.BoardRuns.{Called, Did, end_of, IsBoardRun, IsProcess, own_before, steps_before, steps_of_call}
 use Rattle.board_history.specs.Histories.{IsOpOfCall, IsHistory}
 use Rattle.board_history.specs.HistoriesSoFar.{IsOpOfCallSoFar, IsHistorySoFar, IsUnchosenCall}
-use Rattle.board_history.specs.RunsSoFar.{end_of, IsBoardRunSoFar, IsProcessSoFar, unchosen_begin}
+use Rattle.board_history.specs.RunsSoFar.{IsBoardRunSoFar, IsProcessSoFar, unchosen_begin}
 use Rattle.board_history.proofs.Atomic.{choices_there as choices_so_far, history_atomic as atomic_so_far, history_lawful as lawful_so_far}
 use Rattle.board_history.proofs.Rising.{own_rises as rises_so_far}
 use Rattle.board_history.proofs.There.{all_there as there_so_far}
@@ -27,8 +27,8 @@ module _ {V : Type 0} (width n limit : ℕ) (opening : V) (steps : List ℕ) (di
       (t : ℕ) × (slice_get (did i).times (steps_before width n (did i).calls k + ((n - 1) * width - 1)) ≡ Some t)
   chose i k c l e =
       let lk : k < length (did i).calls = slice_get_within (did i).calls k c e in
-      let a : (n - 1) * width ≤ steps_of_call width n c.tells = column_steps width n c.tells in
-      let b : steps_before width n (did i).calls (suc k) ≡ steps_before width n (did i).calls k + steps_of_call width n c.tells =
+      let a : (n - 1) * width ≤ steps_of_call width n c.tells c.finds = column_steps width n c.tells c.finds in
+      let b : steps_before width n (did i).calls (suc k) ≡ steps_before width n (did i).calls k + steps_of_call width n c.tells c.finds =
       steps_next width n (did i).calls k c e in
       let d : steps_before width n (did i).calls (suc k) ≤ steps_before width n (did i).calls (length (did i).calls) =
       steps_rise width n (did i).calls (suc k) (length (did i).calls) (omega arith) in
@@ -57,6 +57,7 @@ module _ {V : Type 0} (width n limit : ℕ) (opening : V) (steps : List ℕ) (di
     within = run.within;
     scheduled = run.scheduled;
     each = whole_process;
+    finds = run.finds;
     registers = run.registers;
   }
 

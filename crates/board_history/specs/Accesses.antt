@@ -1,5 +1,5 @@
--- A call of a process, access by access: so many reads, one of each other process, rising, and then as many writes,
--- or none (this project's own).
+-- A call of a process, access by access: so many reads, one of each other process, rising, and then as many writes, or
+-- none, where it may have found that what it chose was told (this project's own).
 use Rattle.std.specs.Prelude.{◌≡◌, ℕ, ◌+◌, ◌-◌, ◌*◌, ◌<◌, List, [], ◌∷◌, ◌++◌, length, slice_get, Some, true, false}
 use Rattle.matrix_core.specs.declared.stamp.Stamped.{Stamped}
 use Rattle.matrix_core.specs.Choices.{ChoosesByKind}
@@ -29,14 +29,15 @@ module _ {V : Type 0} where
     pub items : new.items ≡ old.items ++ item ∷ []
 
   -- *One call more*: its steps are the accesses, its answers with the own record what it saw, and what it chose is
-  -- written to each other process, or it is the record that the process had before, and nothing is written
+  -- written to each other process; or nothing is written, where it is the record that the process had before, or in one
+  -- step more the call finds that it was told
   pub record MakesCall (width n limit : ℕ) (first : Stamped V) (i : ℕ) (old new : Did V)
       (call : Called V) : Type 0 where
     pub calls : new.calls ≡ old.calls ++ call ∷ []
     pub steps : List ℕ
-    pub long : length steps ≡ steps_of_call width n call.tells
+    pub long : length steps ≡ steps_of_call width n call.tells call.finds
     pub begun : slice_get steps 0 ≡ Some call.begin
-    pub ended : slice_get steps (steps_of_call width n call.tells - 1) ≡ Some call.end
+    pub ended : slice_get steps (steps_of_call width n call.tells call.finds - 1) ≡ Some call.end
     pub times : new.times ≡ old.times ++ steps
     pub answers : List (Stamped V)
     pub each : length answers + 1 ≡ n
@@ -45,7 +46,8 @@ module _ {V : Type 0} where
     pub writes : (e : ℕ) → e + 1 < n → call.tells ≡ true →
         WritesOnce width steps (n - 1 + e) (old.writes (other i e)) (new.writes (other i e)) call.chosen
     pub unwritten : (e : ℕ) → e + 1 < n → call.tells ≡ false → new.writes (other i e) ≡ old.writes (other i e)
-    pub silent : call.tells ≡ false → call.chosen ≡ own_before first old.calls (length old.calls)
+    pub silent : call.tells ≡ false → call.finds ≡ false →
+        call.chosen ≡ own_before first old.calls (length old.calls)
     pub sees : call.seen ≡ greatest (own_before first old.calls (length old.calls)) answers
     pub chooses : (place : ℕ) →
         ChoosesByKind limit

@@ -2,7 +2,7 @@
 -- and its order, worked out by hand. Process 1 is cut off in its column, with one of two steps of its read made;
 -- process 0 in its row, after one of two cells; and process 0 inside a cell whose accesses take three steps, as those
 -- of a four-slot cell: it has filled a slot, and has made neither of the two stores.
-use Rattle.std.specs.Prelude.{ℕ, zero, suc, List, [], ◌∷◌, Option, Some, None, true}
+use Rattle.std.specs.Prelude.{ℕ, zero, suc, List, [], ◌∷◌, Option, Some, None, true, false}
 use Rattle.history_core.specs.declared.history.Kind.TheVariants.{Write, Read}
 use Rattle.history_core.specs.declared.history.Op.{Op}
 use Rattle.matrix_core.specs.declared.stamp.Stamp.{Stamp}
@@ -10,7 +10,7 @@ use Rattle.matrix_core.specs.declared.stamp.Stamped.{Stamped}
 use Rattle.matrix_core.specs.Listings.{IsInOrder}
 use Rattle.board_history.specs.BoardRuns.{Answered, Called, Did, Written}
 use Rattle.board_history.specs.HistoriesSoFar.{IsHistorySoFar}
-use Rattle.board_history.specs.Instances.{seven, zero_first}
+use Rattle.board_history.specs.Instances.{seven, telling, zero_first}
 use Rattle.board_history.specs.RunsSoFar.{IsBoardRunSoFar}
 
 -- worked out: a run so far of processes that open with 0 and have the limit 5, its history and its order
@@ -40,17 +40,10 @@ answered answer number begin end = record {
 
 -- the write of 7 and a read, from and to these times; an end that hasn't come is given as 0, and nobody looks at it
 abbrev pub write_call : ℕ → Called ℕ
-write_call end = record { begin = 1; end = end; kind = Write; seen = zero_first; chosen = seven; tells = true }
+write_call end = telling Write zero_first seven 1 end
 
 abbrev pub read_call : Stamped ℕ → ℕ → ℕ → Called ℕ
-read_call answer begin end = record {
-  begin = begin;
-  end = end;
-  kind = Read;
-  seen = answer;
-  chosen = answer;
-  tells = true;
-}
+read_call answer begin end = telling Read answer answer begin end
 
 -- as operations
 abbrev pub write_op : Option ℕ → Op ℕ
@@ -119,6 +112,19 @@ row_run_of answer number (suc (suc i)) = record { times = []; calls = []; writes
 
 abbrev pub row_run : ℕ → Did ℕ
 row_run = row_run_of seven 1
+
+-- process 1 reads from 4 to 6, and keeps what it was answered to itself, as if it had found at 6 that it was told
+abbrev pub kept_run : ℕ → Did ℕ
+kept_run (suc zero) = record {
+  times = 4 ∷ 5 ∷ 6 ∷ [];
+  calls = record { begin = 4; end = 6; kind = Read; seen = seven; chosen = seven; tells = false; finds = true } ∷ [];
+  writes = λ j. unwritten;
+  reads = told_reads seven 1;
+}
+kept_run i = row_run i
+
+abbrev pub kept_steps : List ℕ
+kept_steps = 0 ∷ 0 ∷ 0 ∷ 1 ∷ 1 ∷ 1 ∷ []
 
 abbrev pub row_steps : List ℕ
 row_steps = 0 ∷ 0 ∷ 0 ∷ 1 ∷ 1 ∷ 1 ∷ 1 ∷ []

@@ -8,8 +8,8 @@ use Rattle.history_core.specs.Orders.{IsAtomicOrder, is_write, RefusesLawfully, 
 use Rattle.matrix_core.specs.declared.stamp.Stamp.{Stamp}
 use Rattle.matrix_core.specs.Lines.{first_record}
 use Rattle.matrix_core.specs.Listings.{IsInOrder}
-use Rattle.board_history.specs.BoardRuns.{Called, Did}
-use Rattle.board_history.specs.RunsSoFar.{end_of, IsBoardRunSoFar, unchosen_begin}
+use Rattle.board_history.specs.BoardRuns.{Called, Did, end_of}
+use Rattle.board_history.specs.RunsSoFar.{IsBoardRunSoFar, unchosen_begin}
 
 module _ {V : Type 0} where
   -- the operation is call k of its process, which has chosen: it ends with the call's last step, if that is made

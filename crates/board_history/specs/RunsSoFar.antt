@@ -9,18 +9,14 @@ use Rattle.history_core.specs.Schedules.{positions}
 use Rattle.matrix_core.specs.declared.stamp.Stamped.{Stamped}
 use Rattle.matrix_core.specs.Lines.{other}
 use Rattle.matrix_core.specs.Choices.{ChoosesByKind}
-use Rattle.board_history.specs.BoardRuns.{Called, Did, IsRegister, own_before, records, Sees, steps_before}
-use Rattle.board_history.specs.BoardRuns.{steps_of_call, told}
+use Rattle.board_history.specs.BoardRuns.{Called, Did, FindWhatWasTold, IsRegister, own_before, records, Sees}
+use Rattle.board_history.specs.BoardRuns.{steps_before, told}
 
 -- the elements of the first list are the first of the second
 abbrev pub AreFirstOf : {A : Type 0} → List A → List A → Type 0
 AreFirstOf {A} xs ys = (x : ℕ) (a : A) → slice_get xs x ≡ Some a → slice_get ys x ≡ Some a
 
 module _ {V : Type 0} where
-  -- the time of the last step of call k, if it has made it: a call that is cut off has no end, whatever `Called` says
-  abbrev pub end_of : ℕ → ℕ → Did V → ℕ → Called V → Option ℕ
-  end_of width n did k c = slice_get did.times (steps_before width n did.calls k + (steps_of_call width n c.tells - 1))
-
   -- the time of the first step behind all calls that have chosen, if there is one: that of a call that hasn't
   abbrev pub unchosen_begin : ℕ → ℕ → Did V → Option ℕ
   unchosen_begin width n did = slice_get did.times (steps_before width n did.calls (length did.calls))
@@ -53,7 +49,7 @@ module _ {V : Type 0} where
     pub writes : (e : ℕ) → e + 1 < n →
         AreWritesSoFar width n did (n - 1 + e) (did.writes (other i e)).begins (did.writes (other i e)).ends
     pub written : (e : ℕ) → e + 1 < n → AreFirstOf (did.writes (other i e)).items (records did.calls)
-    pub silent : (k : ℕ) (c : Called V) → slice_get did.calls k ≡ Some c → c.tells ≡ false →
+    pub silent : (k : ℕ) (c : Called V) → slice_get did.calls k ≡ Some c → c.tells ≡ false → c.finds ≡ false →
         c.chosen ≡ own_before first did.calls k
     pub sees : (k : ℕ) (c : Called V) → slice_get did.calls k ≡ Some c → Sees n first i did k c.seen
     pub chooses : (k place : ℕ) (c : Called V) → slice_get did.calls k ≡ Some c →
@@ -62,10 +58,11 @@ module _ {V : Type 0} where
         c.kind c.seen.stamp c.seen.item
 
   -- *A run of a board so far*: the steps of its processes make a schedule, each process made its calls as far as it has
-  -- come, and each register between two processes is regular
+  -- come, which found what was told, and each register between two processes is regular
   pub record IsBoardRunSoFar (width n limit : ℕ) (first : Stamped V) (steps : List ℕ) (did : ℕ → Did V) : Type 0 where
     pub size : (2 ≤ n) × (n ≤ 16) × (0 < width)
     pub within : (step who : ℕ) → slice_get steps step ≡ Some who → who < n
     pub scheduled : (i : ℕ) → i < n → (did i).times ≡ positions 1 i steps
     pub each : (i : ℕ) → i < n → IsProcessSoFar width n limit first i (did i)
+    pub finds : FindWhatWasTold width n did
     pub registers : (i j : ℕ) → i < n → j < n → i ≢ j → IsRegister first ((did i).writes j) ((did j).reads i)

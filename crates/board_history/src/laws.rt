@@ -15,12 +15,12 @@ ghost use Rattle.board_history.specs.Accesses.{HasDoneNothing, IsInterval, Makes
 ghost use Rattle.board_history.specs.BoardRuns.{Called, Did, IsBoardRun, IsProcess};
 ghost use Rattle.board_history.specs.CutOff.{IsPart, ReadsColumn, WritesRow};
 ghost use Rattle.board_history.specs.CutOffInstances.{cell_ops, cell_run, cell_stamps, cell_steps, column_ops};
-ghost use Rattle.board_history.specs.CutOffInstances.{column_run, column_stamps, column_steps, IsWorkedOut, row_ops};
-ghost use Rattle.board_history.specs.CutOffInstances.{row_run, row_run_of, row_stamps, row_steps};
+ghost use Rattle.board_history.specs.CutOffInstances.{column_run, column_stamps, column_steps, IsWorkedOut, kept_run};
+ghost use Rattle.board_history.specs.CutOffInstances.{kept_steps, row_ops, row_run, row_run_of, row_stamps, row_steps};
 ghost use Rattle.board_history.specs.HistoriesSoFar.{IsAtomicRunSoFar, IsHistorySoFar, StandIfChosen};
 ghost use Rattle.board_history.specs.RunsSoFar.{IsBoardRunSoFar, IsProcessSoFar};
-ghost use Rattle.board_history.specs.Instances.{reads_opening, reads_seven, seven, silent_before, silent_read};
-ghost use Rattle.board_history.specs.Instances.{two_processes, zero_first};
+ghost use Rattle.board_history.specs.Instances.{found_early, found_read, reads_opening, reads_seven, seven};
+ghost use Rattle.board_history.specs.Instances.{silent_before, silent_read, two_processes, zero_first};
 ghost use Rattle.board_history.specs.Histories.{ChoseFrom, IsGreatestOwn, IsHistory};
 ghost use Rattle.board_history.specs.OneRegister.{IsOneOrder, Named};
 
@@ -76,7 +76,8 @@ pub fn calls_are_of_one_register<V>()
 
 /// What the definitions say of two processes: an answer that was written is a run's, and an answer that is older than a
 /// write that had ended before the read began is no run's, whatever number it is given. A read that has its process's
-/// own record may tell nobody; one that has another record, and tells nobody, is no run's.
+/// own record may tell nobody, and so may one that finds that its record was told by a call that has ended. A read that
+/// has another record, and tells nobody, is no run's, and neither is one that finds so before it is so.
 pub fn runs_of_two()
     ensures fresh { IsBoardRun 1 2 5 zero_first (0 ∷ 0 ∷ 1 ∷ 1 ∷ []) (two_processes reads_seven) }
     ensures stale { (number : ℕ) →
@@ -84,6 +85,8 @@ pub fn runs_of_two()
     ensures silent { IsBoardRun 1 2 5 zero_first (1 ∷ 0 ∷ 0 ∷ []) silent_before }
     ensures untold { (number : ℕ) →
         IsBoardRun 1 2 5 zero_first (0 ∷ 0 ∷ 1 ∷ []) (two_processes (silent_read seven number 3)) → ⊥ }
+    ensures found { IsBoardRun 1 2 5 zero_first (0 ∷ 0 ∷ 1 ∷ 1 ∷ []) (two_processes (found_read seven 1 3 4)) }
+    ensures early { IsBoardRun 2 2 5 zero_first (0 ∷ 0 ∷ 0 ∷ 1 ∷ 1 ∷ 1 ∷ 0 ∷ []) found_early → ⊥ }
 {}
 
 /// A process that has done nothing has made its calls, and one call more keeps that it made its calls: so whoever makes
@@ -152,7 +155,8 @@ pub fn accesses_may_be_cut_off()
 /// Three runs so far, worked out by hand with their histories and orders: a read that is cut off in its column doesn't
 /// stand, and a write that is cut off in its row stands, whether another process was answered it or not. No order with
 /// that read is atomic, nor one without that write that was answered; and if a process was told it, and then answers
-/// the opening, it is no run so far, whatever number the answer is given.
+/// the opening, it is no run so far, whatever number the answer is given. Nor is it one if a process that was told it
+/// tells nobody.
 pub fn runs_cut_off()
     ensures column { IsWorkedOut 2 2 column_steps column_run column_ops column_stamps (0 ∷ []) }
     ensures row { IsWorkedOut 1 3 row_steps row_run row_ops row_stamps (0 ∷ 1 ∷ []) }
@@ -161,4 +165,5 @@ pub fn runs_cut_off()
     ensures write { IsAtomicOrder (λ x y. x ≡ y) 0 row_ops (1 ∷ []) → ⊥ }
     ensures stale { (number : ℕ) →
         IsBoardRunSoFar 1 3 5 zero_first row_steps (row_run_of zero_first number) → ⊥ }
+    ensures kept { IsBoardRunSoFar 1 3 5 zero_first kept_steps kept_run → ⊥ }
 {}

@@ -8,6 +8,9 @@ use Rattle.std.proofs.lemmas.List.Sums.{fold-append}
 use Rattle.std.proofs.lemmas.Option.{none-some, same_Some, slice_get_within}
 use Rattle.history_core.proofs.Places.{get_after, get_before, get_pushed_cases}
 use Rattle.history_core.proofs.Played.{later_operation}
+use Rattle.cell_contract.specs.declared.said.Said.{Said}
+use Rattle.cell_contract.specs.declared.said.Found.{Found}
+use Rattle.cell_contract.specs.Plans.{Doings, doings}
 use Rattle.cell_contract.specs.declared.times.Times.{Times}
 use Rattle.cell_contract.specs.Running.{last_or}
 use Rattle.cell_contract.specs.declared.family.Family.{Ghosts as FamilyWords}
@@ -21,7 +24,7 @@ use Rattle.matrix_core.proofs.lines.Others.{other_above, other_below}
 use Rattle.board_history.specs.Accesses.{IsInterval}
 use Rattle.board_history.proofs.Growing.{not_both}
 use Rattle.board_live.specs.declared.record.Posted.{Posted}
-use Rattle.board_live.specs.inner.Calls.{HasReadColumn, HasRow, HasWrittenRow, IsIntervalOf, IsStretch}
+use Rattle.board_live.specs.inner.Calls.{LooksForTag, HasReadColumn, HasRow, HasWrittenRow, IsIntervalOf, IsOf, IsStretch, KeepsTags}
 use Rattle.board_live.specs.Passes.{IsFurtherAnswer}
 use Rattle.board_live.specs.Records.{greater, Rises, rises_on}
 use Rattle.board_live.proofs.Records.{greater_either, not_above, risen, rises_at_most, rises_greater}
@@ -143,12 +146,13 @@ module _ {V F S T : Type 0} (words : FamilyWords F (Posted V) S T) where
     sees = refl;
     lawful = lawful;
     rises = inr (refl, refl);
+    tags = (refl, refl);
   }
 
   -- a read of one process, as the family has it
   abbrev IsReadOf : (V → Bool) → F → ℕ → S × Posted V → S × Posted V → Type 0
-  IsReadOf obeys family = IsReadFrom (words.is_seat family) words.who words.clock words.times words.writes words.reads words.width
-      (words.opening family) (λ p. IsTrue (obeys p.item)) Rises (SeesNew (λ old item new. new ≡ greater old item))
+  IsReadOf obeys family = IsReadFrom (words.is_seat family) words.who words.clock words.times words.writes words.reads words.said
+      words.found words.width (words.opening family) (λ p. IsTrue (obeys p.item)) Rises (SeesNew (λ old item new. new ≡ greater old item))
 
   -- the record isn't below the last answer of this other process
   abbrev pub IsNewest : F → ℕ → S → Posted V → ℕ → Type 0
@@ -199,6 +203,7 @@ module _ {V F S T : Type 0} (words : FamilyWords F (Posted V) S T) where
     sees = saw ∙ ap (λ z. greater z h.answer) r.sees ∙ sym (fold-append greater own r.answers (h.answer ∷ []));
     lawful = subst (λ z. IsTrue (obeys z.item)) (sym saw) (greater_either obeys seen h.answer r.lawful h.may.0);
     rises = subst (λ z. Rises own z) (sym saw) (rises_on own seen (greater seen h.answer) r.rises (rises_greater seen h.answer));
+    tags = (h.tags.0 ∙ r.tags.0, h.tags.1 ∙ r.tags.1);
   }
     where
       some : 0 < words.width
@@ -247,6 +252,7 @@ module _ {V F S T : Type 0} (words : FamilyWords F (Posted V) S T) where
     unwritten = λ e l. refl;
     last = λ e first l. absurd (omega arith);
     reads = λ j. refl;
+    tags = (refl, refl);
   }
 
   pub write_more : (family : F) (process count : ℕ) (start now next : S) (item : Posted V) →
@@ -255,8 +261,8 @@ module _ {V F S T : Type 0} (words : FamilyWords F (Posted V) S T) where
       (words.writes now (other process count)).times (words.writes next (other process count)).times →
       IsWriteAccess (words.writes now (other process count)) (words.writes next (other process count)) item →
       KeepsOthers (other process count) (words.writes now) (words.writes next) × KeepsEach (words.reads now) (words.reads next) →
-      HasWrittenRow words family process (count + 1) start next item
-  write_more family process count start now next item r of access more others = record {
+      KeepsTags words now next → HasWrittenRow words family process (count + 1) start next item
+  write_more family process count start now next item r of access more others tags = record {
     of = (of.0, of.1 ∙ r.of.1);
     steps = r.steps ++ access.steps;
     long = longer words.width count r.steps access.steps r.long access.long;
@@ -296,6 +302,7 @@ module _ {V F S T : Type 0} (words : FamilyWords F (Posted V) S T) where
           ∙ last_of first (words.writes now (other process count)).items item
     ];
     reads = λ j. others.1 j ∙ r.reads j;
+    tags = (tags.0 ∙ r.tags.0, tags.1 ∙ r.tags.1);
   }
     where
       some : 0 < words.width
@@ -304,46 +311,179 @@ module _ {V F S T : Type 0} (words : FamilyWords F (Posted V) S T) where
 
   -- a row of the family is one of the board
   pub row_written : (family : F) (process : ℕ) (start : S) (item : Posted V) → words.is_seat family start → (count : ℕ) (now : S) →
-      OneByOne (IsWriteTo (words.is_seat family) words.who words.clock words.times words.writes words.reads words.width item) process start
-      count now → HasWrittenRow words family process count start now item
+      OneByOne (IsWriteTo (words.is_seat family) words.who words.clock words.times words.writes words.reads words.said words.found
+      words.width item) process start count now → HasWrittenRow words family process count start now item
   row_written family process start item is _ _ no_call = nothing_written family process start item is
   row_written family process start item is _ _ (one_more count now new r call) = write_more family process count start now new item
       (row_written family process start item is count now r) call.own call.access call.written call.others
+      call.tags
 
-  -- the record may stand after the one that was written last
-  pub stands_there : (family : F) (j : ℕ) (start : S) (first own item : Posted V) → words.opening family ≡ first →
-      last_or first (words.writes start j).items ≡ own → Rises own item →
-      Rises (last_or (words.opening family) (words.writes start j).items) item
-  stands_there family j start first own item opens there rises =
-      subst (λ z. Rises z item) (sym (ap (λ z. last_or z (words.writes start j).items) opens ∙ there)) rises
-
-  -- a row that was written, and one that wasn't, since the record stands there
-  pub row_told : (family : F) (process count : ℕ) (seat seat' : S) (own item : Posted V) →
-      HasWrittenRow words family process count seat seat' item → HasRow words family process count seat seat' own item
-  row_told family process count seat seat' own item w = record {
-    of = w.of;
-    tells = true;
-    steps = w.steps;
-    long = w.long;
-    times = w.times;
-    span = w.span;
-    writes = λ t e l. w.writes e l;
-    unwritten = λ f. absurd (not_both true refl f);
-    last = λ t e first l. w.last e first l;
-    reads = w.reads;
+  -- where nobody looked, nothing was found
+  pub not_looked : (family : F) (seat : S) (item : Posted V) → words.is_seat family seat → LooksForTag words family seat seat item false
+  not_looked family seat item is = record {
+    of = (is, refl);
+    finds = λ e. absurd (not_both false e refl);
+    unfound = λ e. (refl, refl, refl);
+    said = refl;
+    calls = (λ j. refl, λ j. refl);
   }
 
-  pub row_kept : (family : F) (process count : ℕ) (seat : S) (own item : Posted V) → words.is_seat family seat → Rises own item →
-      own.stamp ≡ item.stamp → HasRow words family process count seat seat own item
-  row_kept family process count seat own item is rises test = record {
+  -- a look that found nothing leaves all as it was
+  pub of_still : (family : F) (processes process : ℕ) (seat seat' : S) → IsOf words family processes process seat →
+      words.is_seat family seat' × (words.who seat' ≡ words.who seat) → IsOf words family processes process seat'
+  of_still family processes process seat seat' of same = record {
+    size = of.size;
+    all = of.all;
+    inside = of.inside;
+    seat = same.0;
+    who = same.1 ∙ of.who;
+  }
+
+  pub done_still : (family : F) (seat seat' : S) (item : Posted V) (found : Bool) → LooksForTag words family seat seat' item found →
+      found ≡ false → (P : Doings (Posted V) → ℕ → Type 0) →
+      P (doings (words.times seat) (words.writes seat) (words.reads seat) (words.said seat) (words.found seat)) (words.who seat) →
+      P (doings (words.times seat') (words.writes seat') (words.reads seat') (words.said seat') (words.found seat')) (words.who seat')
+  done_still family seat seat' item found look is P h =
+      let same = look.unfound is in
+      subst (λ (z : List ℕ × (ℕ → WriteAccesses (Posted V)) × (ℕ → ReadAccesses (Posted V)) × List Said × List Found × ℕ).
+      P (doings z.0 z.1 z.2 z.3 z.4) z.5)
+      (λ k. (sym same.1 k, λ j. sym (look.calls.0 j) k, λ j. sym (look.calls.1 j) k, sym look.said k, sym same.2 k, sym look.of.1 k)) h
+
+  -- a row that was written, and its tag may then have been said
+  pub row_told : (family : F) (process count : ℕ) (seat mid : S) (own item : Posted V) (told : Bool) →
+      HasWrittenRow words family process count seat mid item →
+      (w : HasRow words family process count seat mid own item told true) × (w.tells ≡ true)
+  row_told family process count seat mid own item told w = (
+    record {
+      of = w.of;
+      tells = true;
+      finds = false;
+      steps = w.steps;
+      long = w.long;
+      times = w.times;
+      span = w.span;
+      writes = λ t e l. w.writes e l;
+      unwritten = λ f. absurd (not_both true refl f);
+      silent = λ f. absurd (not_both true refl f);
+      last = λ t e first l. w.last e first l;
+      reads = w.reads;
+      now_told = λ t. refl;
+      untold = λ f. absurd (not_both true refl f);
+      says = [];
+      said = w.tags.0 ∙ sym (append-nil (words.said seat));
+      truly = λ x s e. absurd (none-some s e);
+      found = w.tags.1 ∙ sym (append-nil (words.found seat));
+    },
+    refl,
+  )
+
+  pub row_said : (family : F) (process count : ℕ) (seat mid seat' : S) (own item : Posted V) (told : Bool) →
+      HasWrittenRow words family process count seat mid item → item.stamp.writer ≡ process →
+      words.is_seat family seat' × (words.who seat' ≡ words.who mid) →
+      words.said seat' ≡ words.said mid ++ record { tag = item.stamp.tag; time = words.clock mid } ∷ [] →
+      (words.clock seat' ≡ words.clock mid) × (words.times seat' ≡ words.times mid) × (words.found seat' ≡ words.found mid) →
+      KeepsEach (words.writes mid) (words.writes seat') × KeepsEach (words.reads mid) (words.reads seat') →
+      HasRow words family process count seat seat' own item told true
+  row_said family process count seat mid seat' own item told w writer of said same calls = record {
+    of = (of.0, of.1 ∙ w.of.1);
+    tells = true;
+    finds = false;
+    steps = w.steps;
+    long = w.long;
+    times = same.1 ∙ w.times;
+    span = subst (λ z. IsStretch (words.clock seat) z w.steps) (sym same.0) w.span;
+    writes = λ t e l. subst (λ (z : WriteAccesses (Posted V)). IsIntervalOf words.width w.steps e
+        (words.writes seat (other process e)).times z.times × IsWriteAccess (words.writes seat (other process e)) z item)
+        (sym (calls.0 (other process e))) (w.writes e l);
+    unwritten = λ f. absurd (not_both true refl f);
+    silent = λ f. absurd (not_both true refl f);
+    last = λ t e first l. ap (λ (z : WriteAccesses (Posted V)). last_or first z.items) (calls.0 (other process e)) ∙ w.last e first l;
+    reads = λ j. calls.1 j ∙ w.reads j;
+    now_told = λ t. refl;
+    untold = λ f. absurd (not_both true refl f);
+    says = record { tag = item.stamp.tag; time = words.clock mid } ∷ [];
+    said = said ∙ ap (λ z. z ++ record { tag = item.stamp.tag; time = words.clock mid } ∷ []) w.tags.0;
+    truly = λ x s e. truly x s e;
+    found = same.2 ∙ w.tags.1 ∙ sym (append-nil (words.found seat));
+  }
+    where
+      truly : (x : ℕ) (s : Said) → slice_get (record { tag = item.stamp.tag; time = words.clock mid } ∷ []) x ≡ Some s →
+          (true ≡ true) × (item.stamp.writer ≡ process) × (s.tag ≡ item.stamp.tag) × (s.time ≡ words.clock seat')
+      truly zero s e =
+          let is : record { tag = item.stamp.tag; time = words.clock mid } ≡ s = same_Some _ s e in
+          (refl, writer, ap (λ (z : Said). z.tag) (sym is), ap (λ (z : Said). z.time) (sym is) ∙ sym same.0)
+      truly (suc x) s e = absurd (none-some s e)
+
+  -- no row, since the own record is seen again
+  pub row_kept : (family : F) (process count : ℕ) (seat : S) (own item : Posted V) (told : Bool) → words.is_seat family seat →
+      Rises own item → own.stamp ≡ item.stamp → HasRow words family process count seat seat own item told told
+  row_kept family process count seat own item told is rises test = record {
     of = (is, refl);
     tells = false;
+    finds = false;
     steps = [];
     long = refl;
     times = sym (append-nil (words.times seat));
     span = inl (refl, refl);
     writes = λ t. absurd (not_both false t refl);
-    unwritten = λ f. (λ j. refl, risen own item rises test);
+    unwritten = λ f j. refl;
+    silent = λ f g. (risen own item rises test, refl);
     last = λ t. absurd (not_both false t refl);
     reads = λ j. refl;
+    now_told = λ t. absurd (not_both false t refl);
+    untold = λ f g. absurd (not_both false g refl);
+    says = [];
+    said = sym (append-nil (words.said seat));
+    truly = λ x s e. absurd (none-some s e);
+    found = sym (append-nil (words.found seat));
   }
+
+  -- nor where it was found to be told
+  pub row_found : (family : F) (process count : ℕ) (seat seat' : S) (own item : Posted V) (told found : Bool) →
+      LooksForTag words family seat seat' item found → found ≡ true → HasRow words family process count seat seat' own item told false
+  row_found family process count seat seat' own item told found look is =
+      let h = look.finds is in
+      record {
+        of = look.of;
+        tells = false;
+        finds = true;
+        steps = words.clock seat' ∷ [];
+        long = refl;
+        times = h.1;
+        span = inr (words.clock seat', refl, h.0, at_most_itself (words.clock seat'), refl);
+        writes = λ t. absurd (not_both false t refl);
+        unwritten = λ f j. look.calls.0 j;
+        silent = λ f g. absurd (not_both true refl g);
+        last = λ t. absurd (not_both false t refl);
+        reads = λ j. look.calls.1 j;
+        now_told = λ t. absurd (not_both false t refl);
+        untold = λ f g. refl;
+        says = [];
+        said = look.said ∙ sym (append-nil (words.said seat));
+        truly = λ x s e. absurd (none-some s e);
+        found = h.2;
+      }
+    where
+      at_most_itself : (a : ℕ) → a ≤ a
+      at_most_itself a = omega arith
+
+  -- a row behind a look that found nothing
+  pub row_after : (family : F) (process count : ℕ) (seat mid seat' : S) (item : Posted V) (found : Bool) →
+      LooksForTag words family seat mid item found → found ≡ false → HasWrittenRow words family process count mid seat' item →
+      HasWrittenRow words family process count seat seat' item
+  row_after family process count seat mid seat' item found look is w =
+      let same = look.unfound is in
+      record {
+        of = (w.of.0, w.of.1 ∙ look.of.1);
+        steps = w.steps;
+        long = w.long;
+        times = w.times ∙ ap (λ ts. ts ++ w.steps) same.1;
+        span = subst (λ z. IsStretch z (words.clock seat') w.steps) same.0 w.span;
+        writes = λ e l. subst (λ (z : WriteAccesses (Posted V)). IsIntervalOf words.width w.steps e z.times
+            (words.writes seat' (other process e)).times × IsWriteAccess z (words.writes seat' (other process e)) item)
+            (look.calls.0 (other process e)) (w.writes e l);
+        unwritten = λ e l. w.unwritten e l ∙ look.calls.0 (other process e);
+        last = w.last;
+        reads = λ j. w.reads j ∙ look.calls.1 j;
+        tags = (w.tags.0 ∙ look.said, w.tags.1 ∙ same.2);
+      }

@@ -2,18 +2,21 @@
 use Rattle.std.proofs.Common.{◌≡◌, ◌≢◌, Bool, true, false, ℕ, zero, suc, ◌+◌, ◌-◌, ◌*◌, ◌<◌, ◌≤◌, List, [], ◌∷◌, ◌++◌, length, map}
 use Rattle.std.proofs.Common.{slice_get, Some}
 use Rattle.std.proofs.Common.{refl, sym, ◌∙◌, ap, subst, arith, inl, inr, append-nil, append_assoc, add-mul}
-use Rattle.std.specs.Prelude.{All, IsTrue}
+use Rattle.std.specs.Prelude.{All, IsTrue, if◌then◌else◌}
 use Rattle.std.proofs.lemmas.Bool.{cases_Bool}
 use Rattle.std.proofs.lemmas.List.{length-append, length-map, map-append}
 use Rattle.std.proofs.lemmas.List.Elements.{All-weaker}
-use Rattle.std.proofs.lemmas.Option.{slice_get_within}
+use Rattle.std.proofs.lemmas.Option.{same_Some, slice_get_within}
 use Rattle.history_core.specs.declared.history.Kind.{Kind}
-use Rattle.history_core.proofs.Places.{get_after, get_before}
+use Rattle.history_core.proofs.Places.{get_after, get_before, get_last}
 use Rattle.cell_contract.specs.Intervals.{AreFirst, AreHeeded, IsHeeded}
 use Rattle.cell_contract.specs.Running.{last_or}
 use Rattle.cell_contract.proofs.ListLaws.{last_snoc}
 use Rattle.cell_contract.specs.declared.family.Family.{Ghosts as FamilyWords}
-use Rattle.cell_contract.specs.Accesses.{IsWriteAccess}
+use Rattle.cell_contract.specs.declared.said.Said.{Said}
+use Rattle.cell_contract.specs.declared.said.Found.{Found}
+use Rattle.cell_contract.specs.Accesses.{IsWriteAccess, WriteAccesses}
+use Rattle.cell_contract.specs.Plans.{Doings, doings, MaySay}
 use Rattle.matrix_core.specs.declared.stamp.Stamped.{Stamped}
 use Rattle.matrix_core.specs.Choices.{ChoosesByKind, IsAtMost}
 use Rattle.matrix_core.proofs.choices.Stamps.{at_most_trans}
@@ -23,16 +26,21 @@ use Rattle.matrix_core.proofs.lines.Others.{other_differs, other_inside, other_r
 use Rattle.matrix_core.proofs.lists.Elements.{get_exists}
 use Rattle.matrix_core.proofs.orders.Listing.{get_map_back}
 use Rattle.board_history.specs.Accesses.{IsInterval, ReadsOnce, WritesOnce}
-use Rattle.board_history.specs.BoardRuns.{Called, own_before, steps_of_call}
-use Rattle.board_history.proofs.Growing.{call_made}
+use Rattle.board_history.specs.BoardRuns.{Called, end_among, IsProcess, own_before, steps_of_call}
+use Rattle.board_history.proofs.Growing.{call_made, not_both}
 use Rattle.board_live.specs.declared.board.Board.{Board}
 use Rattle.board_live.specs.declared.board.Pass.{Pass}
 use Rattle.board_live.specs.declared.record.Posted.{Posted}
 use Rattle.board_live.specs.inner.Calls.{HasReadColumn, HasRow, IsStretch}
 use Rattle.board_live.specs.Passes.{answered_of, did_of, HasMade, IsFurtherAnswer, IsBounded, IsCall, IsKnown, IsMindful, IsPass}
 use Rattle.board_live.specs.Passes.{written_of}
-use Rattle.board_live.specs.Records.{Rises, stamped}
+use Rattle.board_live.specs.Plans.{did_with, KeepsItsWord, MakesCalls, WasTrue}
+use Rattle.board_live.specs.Records.{Rises, rises_on, stamped}
 use Rattle.board_live.proofs.Accessing.{stays}
+use Rattle.board_live.proofs.Allowed.{carried}
+use Rattle.board_live.proofs.Plans.{whole_so_far}
+use Rattle.board_live.proofs.Same.{same_process}
+use Rattle.board_live.proofs.Words.{word_more, word_said}
 use Rattle.board_live.proofs.Records.{greatest_from, least, rises_at_most, stamped_greatest}
 
 -- what a process has after one call more
@@ -90,9 +98,9 @@ twice : (a b : ℕ) → 2 * a * b ≡ a * b + a * b
 twice a b = grind arith
 
 module _ {V F S T : Type 0} (words : FamilyWords F (Posted V) S T) (obeys : V → Bool) (board : Board V F S T) (old : Pass V F S T)
-    (of : IsPass words obeys board old) (kind : Kind) (seen chosen : Posted V) (mid next : S)
+    (of : IsPass words obeys board old) (kind : Kind) (seen chosen : Posted V) (told : Bool) (mid next : S)
     (r : HasReadColumn words obeys board.family old.process (board.processes - 1) old.seat mid old.own seen)
-    (w : HasRow words board.family old.process (board.processes - 1) mid next old.own chosen) where
+    (w : HasRow words board.family old.process (board.processes - 1) mid next old.own chosen old.told told) where
   abbrev n : ℕ
   n = board.processes
 
@@ -100,7 +108,7 @@ module _ {V F S T : Type 0} (words : FamilyWords F (Posted V) S T) (obeys : V �
   i = old.process
 
   abbrev new : Pass V F S T
-  new = record { process = old.process; own = chosen; seat = next; room = old.room }
+  new = record { process = old.process; own = chosen; told = told; seat = next; room = old.room }
 
   two : 2 ≤ n
   two = of.size.0
@@ -120,52 +128,157 @@ module _ {V F S T : Type 0} (words : FamilyWords F (Posted V) S T) (obeys : V �
       (let a = r.long in let s = some in omega arith)
 
   abbrev called : Called V
-  called = record { begin = span.0; end = words.clock next; kind = kind; seen = stamped seen; chosen = stamped chosen; tells = w.tells }
+  called = record {
+    begin = span.0;
+    end = words.clock next;
+    kind = kind;
+    seen = stamped seen;
+    chosen = stamped chosen;
+    tells = w.tells;
+    finds = w.finds;
+  }
 
-  long : length (r.steps ++ w.steps) ≡ steps_of_call words.width n w.tells
+  long : length (r.steps ++ w.steps) ≡ steps_of_call words.width n w.tells w.finds
   long = length-append r.steps w.steps ∙ ap (λ m. m + length w.steps) r.long ∙ ap (λ m. (n - 1) * words.width + m) w.long
 
-  made : ((place : ℕ) → ChoosesByKind board.limit (record { place = place; who = i; kind = kind; stamp = chosen.stamp; item = chosen.item })
-      kind seen.stamp seen.item) → (calls : List (Called V)) → HasMade words board old calls →
-      HasMade words board new (calls ++ called ∷ [])
-  made chooses calls h = record {
-    made = call_made words.width n board.limit (stamped board.first) i (did_of words old.seat calls)
-        (did_of words next (calls ++ called ∷ [])) called two of.some h.made (record {
-          calls = refl;
-          steps = r.steps ++ w.steps;
-          long = long;
-          begun = span.1;
-          ended = subst (λ m. slice_get (r.steps ++ w.steps) (m - 1) ≡ Some (words.clock next)) long span.2;
-          times = w.times ∙ ap (λ ts. ts ++ w.steps) r.times ∙ append_assoc (words.times old.seat) r.steps w.steps;
-          answers = map stamped r.answers;
-          each = ap (λ m. m + 1) (length-map r.answers stamped ∙ r.each) ∙ (let t = two in omega arith);
-          reads = λ e answer there.
-              let x = get_map_back stamped r.answers e answer there in
-              let l : e < n - 1 = let a = slice_get_within r.answers e x.0 x.1 in let b = r.each in omega arith in
-              let y = r.reads e x.0 x.1 in
-              subst (λ z. ReadsOnce words.width (r.steps ++ w.steps) e (answered_of (words.reads old.seat (other i e)))
-              (answered_of z) answer)
-              (sym (w.reads (other i e)))
-              (record {
-                interval = stays words.width r.steps w.steps e (n - 1) _ _ _ _ r.long l of.some y.0;
-                items = ap (map stamped) y.1.read.answers ∙ map-append stamped (words.reads old.seat (other i e)).answers (x.0 ∷ [])
-                    ∙ ap (λ z. map stamped (words.reads old.seat (other i e)).answers ++ z ∷ []) x.2;
-              });
-          writes = λ e l t.
-              let x = w.writes t e (omega arith) in
-              subst (λ z. WritesOnce words.width (r.steps ++ w.steps) (n - 1 + e) (written_of z)
-              (written_of (words.writes next (other i e))) (stamped chosen)) (r.writes (other i e))
-              (record {
-                interval = shifted words.width r.steps w.steps (n - 1) e _ _ _ _ r.long x.0;
-                items = ap (map stamped) x.1.items ∙ map-append stamped (words.writes mid (other i e)).items (chosen ∷ []);
-              });
-          unwritten = λ e l f. ap written_of ((w.unwritten f).0 (other i e) ∙ r.writes (other i e));
-          silent = λ f. ap stamped (w.unwritten f).1 ∙ h.own;
-          sees = ap stamped r.sees ∙ stamped_greatest old.own r.answers ∙ ap (λ o. greatest_stamped o (map stamped r.answers)) h.own;
-          chooses = chooses;
-        });
-    own = own_done (stamped board.first) calls called;
+  all_times : words.times next ≡ words.times old.seat ++ (r.steps ++ w.steps)
+  all_times = w.times ∙ ap (λ ts. ts ++ w.steps) r.times ∙ append_assoc (words.times old.seat) r.steps w.steps
+
+  abbrev Choice : Type 0
+  Choice = (place : ℕ) → ChoosesByKind board.limit
+      (record { place = place; who = i; kind = kind; stamp = chosen.stamp; item = chosen.item }) kind seen.stamp seen.item
+
+  process_made : Choice → (calls : List (Called V)) → HasMade words board old calls →
+      IsProcess words.width n board.limit (stamped board.first) i (did_of words next (calls ++ called ∷ []))
+  process_made chooses calls h = call_made words.width n board.limit (stamped board.first) i (did_of words old.seat calls)
+      (did_of words next (calls ++ called ∷ [])) called two of.some h.made (record {
+        calls = refl;
+        steps = r.steps ++ w.steps;
+        long = long;
+        begun = span.1;
+        ended = subst (λ m. slice_get (r.steps ++ w.steps) (m - 1) ≡ Some (words.clock next)) long span.2;
+        times = all_times;
+        answers = map stamped r.answers;
+        each = ap (λ m. m + 1) (length-map r.answers stamped ∙ r.each) ∙ (let t = two in omega arith);
+        reads = λ e answer there.
+            let x = get_map_back stamped r.answers e answer there in
+            let l : e < n - 1 = let a = slice_get_within r.answers e x.0 x.1 in let b = r.each in omega arith in
+            let y = r.reads e x.0 x.1 in
+            subst (λ z. ReadsOnce words.width (r.steps ++ w.steps) e (answered_of (words.reads old.seat (other i e)))
+            (answered_of z) answer)
+            (sym (w.reads (other i e)))
+            (record {
+              interval = stays words.width r.steps w.steps e (n - 1) _ _ _ _ r.long l of.some y.0;
+              items = ap (map stamped) y.1.read.answers ∙ map-append stamped (words.reads old.seat (other i e)).answers (x.0 ∷ [])
+                  ∙ ap (λ z. map stamped (words.reads old.seat (other i e)).answers ++ z ∷ []) x.2;
+            });
+        writes = λ e l t.
+            let x = w.writes t e (omega arith) in
+            subst (λ z. WritesOnce words.width (r.steps ++ w.steps) (n - 1 + e) (written_of z)
+            (written_of (words.writes next (other i e))) (stamped chosen)) (r.writes (other i e))
+            (record {
+              interval = shifted words.width r.steps w.steps (n - 1) e _ _ _ _ r.long x.0;
+              items = ap (map stamped) x.1.items ∙ map-append stamped (words.writes mid (other i e)).items (chosen ∷ []);
+            });
+        unwritten = λ e l f. ap written_of (w.unwritten f (other i e) ∙ r.writes (other i e));
+        silent = λ f g. ap stamped (w.silent f g).0 ∙ h.own;
+        sees = ap stamped r.sees ∙ stamped_greatest old.own r.answers ∙ ap (λ o. greatest_stamped o (map stamped r.answers)) h.own;
+        chooses = chooses;
+      })
+
+  -- it ends with its last step
+  ends : Choice → (calls : List (Called V)) → HasMade words board old calls →
+      end_among words.width n (words.times next) (calls ++ called ∷ []) (length calls) called ≡ Some (words.clock next)
+  ends chooses calls h = (process_made chooses calls h).ended (length calls) called (get_last calls called (length calls) refl)
+
+  -- so a tag of its own that it tells may be said
+  truly : Choice → (calls : List (Called V)) → HasMade words board old calls → w.tells ≡ true → chosen.stamp.writer ≡ i →
+      (s : Said) → s.tag ≡ chosen.stamp.tag → s.time ≡ words.clock next →
+      WasTrue words.width n i (words.times next) (calls ++ called ∷ []) s
+  truly chooses calls h tells writer s tag time = record {
+    number = length calls;
+    call = called;
+    there = get_last calls called (length calls) refl;
+    tells = tells;
+    writer = writer;
+    not_below = omega arith;
+    end = words.clock next;
+    ended = ends chooses calls h;
+    before = omega arith;
   }
+
+  -- and what it found was found with its last step
+  all_found : List Found
+  all_found = if w.tells then [] else (if w.finds then record {
+    who = chosen.stamp.writer;
+    tag = chosen.stamp.tag;
+    time = words.clock next;
+  } ∷ [] else [])
+
+  found_one : w.tells ≡ false → w.finds ≡ true → all_found ≡ record {
+    who = chosen.stamp.writer;
+    tag = chosen.stamp.tag;
+    time = words.clock next;
+  } ∷ []
+  unfolding all_found
+  found_one t f = ap (λ (z : Bool × Bool). if z.0 then [] else (if z.1 then record {
+    who = chosen.stamp.writer;
+    tag = chosen.stamp.tag;
+    time = words.clock next;
+  } ∷ [] else [])) (λ k. (t k, f k))
+
+  found_is : words.found next ≡ words.found old.seat ++ all_found
+  unfolding all_found
+  found_is = w.found ∙ ap (λ z. z ++ all_found) r.tags.1
+
+  word : Choice → (calls : List (Called V)) → HasMade words board old calls →
+      KeepsItsWord words.width n i (words.times next) (calls ++ called ∷ []) (words.said next) (words.found next)
+  word chooses calls h =
+      subst (λ (z : List ℕ × List Said × List Found). KeepsItsWord words.width n i z.0 (calls ++ called ∷ []) z.1 z.2)
+      (λ k. (sym all_times k, sym (w.said ∙ ap (λ z. z ++ w.says) r.tags.0) k, sym found_is k))
+      (word_more words.width n i two of.some (words.times old.seat) (r.steps ++ w.steps) calls h.made.long called (words.said old.seat)
+      w.says (words.found old.seat) all_found h.word
+      (λ x s e.
+      let y = w.truly x s e in
+      subst (λ z. WasTrue words.width n i z (calls ++ called ∷ []) s) all_times
+      (truly chooses calls h y.0 y.1 s y.2 y.3))
+      (λ end t f g.
+      let same : words.clock next ≡ end = same_Some (words.clock next) end (sym (ends chooses calls h)
+      ∙ ap (λ ts. end_among words.width n ts (calls ++ called ∷ []) (length calls) called) all_times ∙ g) in (
+        0,
+        ap (λ z. slice_get z 0) (found_one t f)
+            ∙ ap (λ z. Some (record { who = chosen.stamp.writer; tag = chosen.stamp.tag; time = z })) same,
+      )))
+
+  made : Choice → (calls : List (Called V)) → HasMade words board old calls → HasMade words board new (calls ++ called ∷ [])
+  made chooses calls h = record {
+    made = process_made chooses calls h;
+    own = own_done (stamped board.first) calls called;
+    word = word chooses calls h;
+  }
+
+  -- the plan allows to say its tag
+  pub may_say : Choice → w.tells ≡ true → chosen.stamp.writer ≡ i → MaySay
+      (MakesCalls (words.opening board.family) words.width (words.processes board.family) (words.limit board.family) (words.who next))
+      chosen.stamp.tag (words.clock next)
+      (doings (words.times next) (words.writes next) (words.reads next) (words.said next) (words.found next))
+  may_say chooses tells writer =
+      let calls : List (Called V) = of.made.0 in
+      let one : Said = record { tag = chosen.stamp.tag; time = words.clock next } in
+      let done : Doings (Posted V) = doings (words.times next) (words.writes next) (words.reads next) (words.said next ++ one ∷ [])
+      (words.found next) in
+      carried words obeys board old of (λ opening n limit process. MaySay (MakesCalls opening words.width n limit process)
+      chosen.stamp.tag (words.clock next)
+      (doings (words.times next) (words.writes next) (words.reads next) (words.said next) (words.found next))) (words.who next)
+      (w.of.1 ∙ r.of.1 ∙ of.who) (
+        calls ++ called ∷ [],
+        λ numbers. whole_so_far words.width n board.limit i board.first two of.some (calls ++ called ∷ []) numbers done
+            (same_process words.width n board.limit (stamped board.first) i (did_of words next (calls ++ called ∷ []))
+            (did_with (calls ++ called ∷ []) numbers done) refl refl
+            (λ e. record { items = refl; begins = refl; ends = refl }) (λ e. refl) (process_made chooses calls of.made.1)),
+        word_said words.width n i (words.times next) (calls ++ called ∷ []) (words.said next) (words.found next) one
+            (truly chooses calls of.made.1 tells writer one refl refl) (word chooses calls of.made.1),
+      )
 
   known : IsKnown words board old new seen
   known = elim (greatest_from old.own r.answers) [
@@ -216,20 +329,19 @@ module _ {V F S T : Type 0} (words : FamilyWords F (Posted V) S T) (obeys : V �
   pub is_bounded : IsBounded words board old new
   is_bounded = record {
     accesses =
-        let all = ap length (w.times ∙ ap (λ ts. ts ++ w.steps) r.times ∙ append_assoc (words.times old.seat) r.steps w.steps)
+        let all = ap length all_times
         ∙ length-append (words.times old.seat) (r.steps ++ w.steps) ∙ ap (λ m. length (words.times old.seat) + m) long in
-        most w.tells all;
+        most w.tells w.finds all;
     each = words.few_steps;
   }
     where
-      most : (tells : Bool) → length (words.times next) ≡ length (words.times old.seat) + steps_of_call words.width n tells →
+      most : (tells finds : Bool) → length (words.times next) ≡ length (words.times old.seat) + steps_of_call words.width n tells finds →
           length (words.times next) ≤ length (words.times old.seat) + 2 * (n - 1) * words.width
-      most true e = let d = twice (n - 1) words.width in omega arith
-      most false e = let d = twice (n - 1) words.width in omega arith
+      most true finds e = let d = twice (n - 1) words.width in omega arith
+      most false true e = let d = twice (n - 1) words.width in let s = some in omega arith
+      most false false e = let d = twice (n - 1) words.width in omega arith
 
-  pub is_call : Rises seen chosen →
-      ((place : ℕ) → ChoosesByKind board.limit (record { place = place; who = i; kind = kind; stamp = chosen.stamp; item = chosen.item })
-      kind seen.stamp seen.item) → IsCall words obeys board kind old new seen
+  pub is_call : Rises seen chosen → Choice → IsCall words obeys board kind old new seen
   is_call onward chooses = record {
     process = refl;
     begin = span.0;
@@ -248,22 +360,29 @@ module _ {V F S T : Type 0} (words : FamilyWords F (Posted V) S T) (obeys : V �
     rises = r.rises;
     onward = onward;
     tells = w.tells;
-    steps = ap length (w.times ∙ ap (λ ts. ts ++ w.steps) r.times ∙ append_assoc (words.times old.seat) r.steps w.steps)
+    finds = w.finds;
+    steps = ap length all_times
         ∙ length-append (words.times old.seat) (r.steps ++ w.steps) ∙ ap (λ m. length (words.times old.seat) + m) long;
     written = λ t j l ne.
         let e = other_reached n i j of.inside l ne in
         let x = (w.writes t e.0 (let z = e.1 in omega arith)).1 in
         subst (λ z. IsWriteAccess z (words.writes next j) chosen) (r.writes j)
         (subst (λ z. IsWriteAccess (words.writes mid z) (words.writes next z) chosen) e.2 x);
-    unwritten = λ f. (λ j. (w.unwritten f).0 j ∙ r.writes j, (w.unwritten f).1);
+    unwritten = λ f j. w.unwritten f j ∙ r.writes j;
+    silent = w.silent;
+    found = λ t f. found_is ∙ ap (λ z. words.found old.seat ++ z) (found_one t f);
+    told = w.now_told;
+    untold = w.untold;
     made = λ calls h. made chooses calls h;
   }
 
-  -- the record stands last in each register of the process
-  pub is_pass : ((place : ℕ) → ChoosesByKind board.limit
-      (record { place = place; who = i; kind = kind; stamp = chosen.stamp; item = chosen.item }) kind seen.stamp seen.item) →
-      IsTrue (obeys chosen.item) → IsPass words obeys board new
-  is_pass chooses lawful = record {
+  pub call_tells : (onward : Rises seen chosen) (chooses : Choice) → (is_call onward chooses).tells ≡ w.tells
+  unfolding is_call
+  call_tells onward chooses = refl
+
+  -- if it was told, the record stands last in each register of the process
+  pub is_pass : Rises seen chosen → Choice → IsTrue (obeys chosen.item) → IsPass words obeys board new
+  is_pass onward chooses lawful = record {
     size = of.size;
     some = of.some;
     processes = of.processes;
@@ -275,12 +394,27 @@ module _ {V F S T : Type 0} (words : FamilyWords F (Posted V) S T) (obeys : V �
     seat = w.of.0;
     who = w.of.1 ∙ r.of.1 ∙ of.who;
     lawful = lawful;
-    last = λ j l ne. elim (cases_Bool w.tells) [
-      | inl t ↦
-          let e = other_reached n i j of.inside l ne in
-          let le : e.0 < n - 1 = let z = e.1 in omega arith in
-          ap (λ z. last_or board.first (words.writes next z).items) (sym e.2) ∙ w.last t e.0 board.first le
-      | inr f ↦ ap (λ x. last_or board.first x.items) ((w.unwritten f).0 j ∙ r.writes j) ∙ of.last j l ne ∙ sym (w.unwritten f).1
+    below = λ j l ne. elim (cases_Bool w.tells) [
+      | inl t ↦ subst (λ z. Rises z chosen) (sym (last_told t j l ne)) (inr (refl, refl))
+      | inr f ↦ rises_on (last_or board.first (words.writes next j).items) old.own chosen
+          (subst (λ (z : WriteAccesses (Posted V)). Rises (last_or board.first z.items) old.own)
+          (sym (w.unwritten f j ∙ r.writes j)) (of.below j l ne))
+          (rises_on old.own seen chosen r.rises onward)
+    ];
+    last = λ now j l ne. elim (cases_Bool w.tells) [
+      | inl t ↦ last_told t j l ne
+      | inr f ↦ elim (cases_Bool w.finds) [
+        | inl g ↦ absurd (not_both told now (w.untold f g))
+        | inr g ↦
+            let kept = w.silent f g in
+            ap (λ x. last_or board.first x.items) (w.unwritten f j ∙ r.writes j) ∙ of.last (sym kept.1 ∙ now) j l ne ∙ sym kept.0
+      ]
     ];
     made = (of.made.0 ++ called ∷ [], made chooses of.made.0 of.made.1);
   }
+    where
+      last_told : w.tells ≡ true → (j : ℕ) → j < n → j ≢ i → last_or board.first (words.writes next j).items ≡ chosen
+      last_told t j l ne =
+          let e = other_reached n i j of.inside l ne in
+          let le : e.0 < n - 1 = let z = e.1 in omega arith in
+          ap (λ z. last_or board.first (words.writes next z).items) (sym e.2) ∙ w.last t e.0 board.first le

@@ -1,6 +1,6 @@
 -- The passes of a new board: each has the seat of its place, and nothing was done with it.
 use Rattle.std.proofs.Common.{◌≡◌, Bool, ℕ, zero, suc, ◌+◌, ◌<◌, ◌≤◌, List, [], ◌∷◌, ◌++◌, length, reverse, slice_get, Some}
-use Rattle.std.proofs.Common.{Global, append-nil, refl, sym, ◌∙◌, ap, subst, arith, append_assoc}
+use Rattle.std.proofs.Common.{Global, true, inr, append-nil, refl, sym, ◌∙◌, ap, subst, arith, append_assoc}
 use Rattle.std.specs.Prelude.{IsTrue, Vec, vec_capacity}
 use Rattle.std.proofs.lemmas.List.{length_push, reverse-append}
 use Rattle.std.proofs.lemmas.Option.{none-some, same_Some, slice_get_within}
@@ -23,7 +23,7 @@ IsRoom n i room = (i + 1 ≡ n → n ≤ vec_capacity room) × (room.items ≡ [
 
 module _ {V F S T : Type 0} where
   abbrev pub pass_of : Posted V → ℕ → S → Vec S Global → Pass V F S T
-  pass_of first i seat room = record { process = i; own = first; seat = seat; room = room }
+  pass_of first i seat room = record { process = i; own = first; told = true; seat = seat; room = room }
 
   -- a pass for each seat, by rising number
   abbrev pub ArePasses : ℕ → Posted V → ℕ → List S → List (Pass V F S T) → Type 0
@@ -98,7 +98,7 @@ module _ {V F S T : Type 0} (words : FamilyWords F (Posted V) S T) (obeys : V �
       board.processes ≡ n → board.limit ≡ limit → board.first ≡ first →
       words.opening board.family ≡ first → words.processes board.family ≡ n → words.limit board.family ≡ limit → length seats ≡ n →
       Each (λ i s. words.is_seat board.family s × (words.who s ≡ i)) seats →
-      Each (λ i s. IsUnused (words.clock s) (words.times s) (words.writes s) (words.reads s)) seats →
+      Each (λ i s. IsUnused (words.clock s) (words.times s) (words.writes s) (words.reads s) (words.said s) (words.found s)) seats →
       ArePasses n first 0 seats passes → IsNew words obeys n limit first board passes
   is_new n limit first board seats passes size within stamp lawful count limited opened opens all limits long each unused are = record {
     size = (size.0, size.1);
@@ -119,6 +119,8 @@ module _ {V F S T : Type 0} (words : FamilyWords F (Posted V) S T) (obeys : V �
           let u = unused i seat x.2 in
           let l : i < n = let z = slice_get_within seats i seat x.2 in omega arith in
           let room : IsRoom n i x.1 = subst (λ m. IsRoom n m x.1) place x.3 in
+          let none_last : (j : ℕ) → last_or board.first (words.writes seat j).items ≡ first =
+          λ j. ap (λ w. last_or board.first w.items) (u.2 j) ∙ opened in
           let made : HasMade words board (pass_of first i seat x.1) [] = record {
             made = nothing_made words.width board.processes board.limit (stamped board.first) i (did_of words seat []) (record {
               times = u.1;
@@ -127,6 +129,10 @@ module _ {V F S T : Type 0} (words : FamilyWords F (Posted V) S T) (obeys : V �
               writes = λ j. ap written_of (u.2 j);
             });
             own = ap stamped (sym opened);
+            word = record {
+              says = λ x s e. absurd (none-some s (ap (λ z. slice_get z x) (sym u.4) ∙ e));
+              finds = λ k end c e. absurd (none-some c e);
+            };
           } in
           let is : IsPass words obeys board (pass_of first i seat x.1) = record {
             size = let z = count in (let a = size.0 in omega arith, let a = size.1 in omega arith);
@@ -140,7 +146,8 @@ module _ {V F S T : Type 0} (words : FamilyWords F (Posted V) S T) (obeys : V �
             seat = e.0;
             who = e.1;
             lawful = lawful;
-            last = λ j lj ne. ap (λ w. last_or board.first w.items) (u.2 j) ∙ opened;
+            below = λ j lj ne. inr (ap (λ (z : Posted V). z.stamp) (none_last j), ap (λ (z : Posted V). z.item) (none_last j));
+            last = λ t j lj ne. none_last j;
             made = ([], made);
           } in
           subst (λ (q : Pass V F S T). IsPass words obeys board q × (q.process ≡ i) × (q.own ≡ first) × HasMade words board q [])

@@ -1,4 +1,5 @@
 mod Records
+mod Words
 mod Accessing
 mod Calling
 mod Ending

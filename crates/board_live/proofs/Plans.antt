@@ -1,14 +1,18 @@
 -- A call as far as it has come: after any step of its column or of its row its process has made calls so far.
 use Rattle.std.proofs.Common.{◌≡◌, ℕ, ◌+◌, ◌-◌, ◌*◌, ◌<◌, ◌≤◌, List, [], ◌∷◌, ◌++◌, length, map, slice_get, Option, None, Some}
-use Rattle.std.proofs.Common.{refl, sym, ◌∙◌, ap, subst, arith, inl, inr, append_assoc, append-nil, add-mul, mul-le-mul_right, true}
+use Rattle.std.proofs.Common.{refl, sym, ◌∙◌, ap, subst, arith, inl, inr, append_assoc, append-nil, add-mul, mul-le-mul_right, true, false}
 use Rattle.std.proofs.lemmas.Bool.{cases_lt}
 use Rattle.std.proofs.lemmas.List.{length-append, length-map, map-append}
-use Rattle.std.proofs.lemmas.Option.{slice_get_within}
-use Rattle.history_core.proofs.Places.{get_after, get_before}
+use Rattle.std.proofs.lemmas.Option.{none-some, same_Some, slice_get_within}
+use Rattle.history_core.proofs.Places.{get_after, get_before, get_last}
 use Rattle.history_core.proofs.Played.{later_operation}
 use Rattle.history_core.specs.declared.history.Kind.{Kind}
+use Rattle.history_core.specs.declared.history.Kind.TheVariants.{Read}
+use Rattle.cell_contract.specs.declared.said.Said.{Said}
+use Rattle.cell_contract.specs.declared.said.Found.{Found}
 use Rattle.cell_contract.specs.Accesses.{KeepsEach, KeepsOthers}
-use Rattle.cell_contract.specs.Plans.{Accesses, Doings, HasNoSteps, if_there as if_made, MayReadEach, MayWriteEach, ReadsSoFar}
+use Rattle.cell_contract.specs.Plans.{Accesses, Doings, HasNoSteps, if_there as if_made, MayFind, MayReadEach, MayWriteEach}
+use Rattle.cell_contract.specs.Plans.{ReadsSoFar}
 use Rattle.cell_contract.specs.Plans.{WritesSoFar}
 use Rattle.cell_contract.specs.Rows.{OneByOne}
 use Rattle.cell_contract.specs.Rows.OneByOne.{no_call, one_more}
@@ -17,18 +21,19 @@ use Rattle.matrix_core.specs.Stamps.{greatest as greatest_stamped}
 use Rattle.matrix_core.specs.Lines.{other}
 use Rattle.matrix_core.proofs.orders.Listing.{get_map_back}
 use Rattle.board_history.specs.Accesses.{IsInterval, ReadsOnce}
-use Rattle.board_history.specs.BoardRuns.{Called, IsProcess, own_before}
+use Rattle.board_history.specs.BoardRuns.{Called, end_among, IsProcess, own_before}
 use Rattle.board_history.specs.CutOff.{if_there, IsPart}
 use Rattle.board_history.specs.RunsSoFar.{AreFirstOf, IsProcessSoFar}
 use Rattle.board_history.proofs.cut_off.Calls.{column_begun, row_begun}
 use Rattle.board_history.proofs.cut_off.Parts.{part_before}
-use Rattle.board_history.proofs.Growing.{nothing_made}
+use Rattle.board_history.proofs.Growing.{call_made, not_both, nothing_made}
 use Rattle.board_live.specs.declared.record.Posted.{Posted}
-use Rattle.board_live.specs.Plans.{answered_by, did_with, MakesCalls, written_by}
+use Rattle.board_live.specs.Plans.{answered_by, did_with, KeepsItsWord, MakesCalls, written_by}
 use Rattle.board_live.specs.Records.{greatest_posted, stamped}
 use Rattle.board_live.proofs.Accessing.{other_once, stays}
 use Rattle.board_live.proofs.Records.{stamped_greatest}
 use Rattle.board_live.proofs.Same.{same_process}
+use Rattle.board_live.proofs.Words.{word_later, word_more, word_told}
 
 same_time : (o : Option ℕ) → if_made o ≡ if_there o
 same_time None = refl
@@ -152,6 +157,7 @@ module _ {T : Type 0} (width i : ℕ) (some : 0 < width) where
     pub times : new.times ≡ old.times ++ steps
     pub reads : AreAccessed Grown width i count steps old.reads new.reads
     pub writes : KeepsEach old.writes new.writes
+    pub tags : (new.said ≡ old.said) × (new.found ≡ old.found)
 
   pub record WritesOthers (item : T) (count size : ℕ) (old new : Doings T) : Type 0 where
     pub steps : List ℕ
@@ -159,6 +165,7 @@ module _ {T : Type 0} (width i : ℕ) (some : 0 < width) where
     pub times : new.times ≡ old.times ++ steps
     pub writes : AreAccessed (GrownBy item) width i count steps old.writes new.writes
     pub reads : KeepsEach old.reads new.reads
+    pub tags : (new.said ≡ old.said) × (new.found ≡ old.found)
 
   reads_more : (count made : ℕ) (old now new : Doings T) → ReadsOthers count (count * width) old now →
       ReadsSoFar width made (other i count) now new → ReadsOthers (count + 1) (count * width + made) old new
@@ -169,6 +176,7 @@ module _ {T : Type 0} (width i : ℕ) (some : 0 < width) where
     reads = accessed_more Grown width i count r.steps h.steps old.reads now.reads new.reads r.reads r.long some h.begins h.ends
         (h.answers, h.items) h.others.0;
     writes = λ j. h.others.1 j ∙ r.writes j;
+    tags = (h.tags.0 ∙ r.tags.0, h.tags.1 ∙ r.tags.1);
   }
 
   pub reads_each : (old : Doings T) (count : ℕ) (now : Doings T) → OneByOne (ReadsSoFar width width) i old count now →
@@ -179,6 +187,7 @@ module _ {T : Type 0} (width i : ℕ) (some : 0 < width) where
     times = sym (append-nil old.times);
     reads = none_accessed Grown width i old.reads;
     writes = λ j. refl;
+    tags = (refl, refl);
   }
   reads_each old _ _ (one_more count now new r h) =
       subst (λ z. ReadsOthers (count + 1) z old new) (one_longer width count)
@@ -197,6 +206,7 @@ module _ {T : Type 0} (width i : ℕ) (some : 0 < width) where
     writes = accessed_more (GrownBy item) width i count r.steps h.steps old.writes now.writes new.writes r.writes r.long some h.begins
         h.ends h.items h.others.0;
     reads = λ j. h.others.1 j ∙ r.reads j;
+    tags = (h.tags.0 ∙ r.tags.0, h.tags.1 ∙ r.tags.1);
   }
 
   pub writes_each : (item : T) (old : Doings T) (count : ℕ) (now : Doings T) → OneByOne (WritesSoFar width width item) i old count now →
@@ -207,6 +217,7 @@ module _ {T : Type 0} (width i : ℕ) (some : 0 < width) where
     times = sym (append-nil old.times);
     writes = none_accessed (GrownBy item) width i old.writes;
     reads = λ j. refl;
+    tags = (refl, refl);
   }
   writes_each item old _ _ (one_more count now new r h) =
       subst (λ z. WritesOthers item (count + 1) z old new) (one_longer width count)
@@ -228,8 +239,8 @@ module _ {V : Type 0} (width n limit i : ℕ) (opening : Posted V) (two : 2 ≤ 
   -- after any step of the column
   pub column_allowed : (calls : List (Called V)) (old : Doings (Posted V)) →
       ((numbers : ℕ → List ℕ) → IsProcess width n limit (stamped opening) i (did_with calls numbers old)) →
-      MayReadEach (MakesCalls opening width n limit i) width n i old
-  column_allowed calls old process count now l before made new begun few h =
+      KeepsItsWord width n i old.times calls old.said old.found → MayReadEach (MakesCalls opening width n limit i) width n i old
+  column_allowed calls old process word count now l before made new begun few h =
       let r : ReadsOthers width i some (count + 1) (count * width + made) old new = reads_part width i some count made old now new before h
       in (
         calls,
@@ -253,22 +264,26 @@ module _ {V : Type 0} (width n limit i : ℕ) (opening : Posted V) (two : 2 ≤ 
               ];
               writes = λ e le. ap written_by (r.writes (other i e));
             }),
+        subst (λ (z : List ℕ × List Said × List Found). KeepsItsWord width n i z.0 calls z.1 z.2)
+            (λ j. (sym r.times j, sym r.tags.0 j, sym r.tags.1 j))
+            (word_later width n i two some old.times r.steps calls (process (λ j. [])).long old.said old.found word),
       )
 
   -- after any step of the row: the column was made, and the record was chosen
   pub row_allowed : (calls : List (Called V)) (kind : Kind) (begin : ℕ) (seen own item : Posted V) (answers : List (Posted V))
       (steps : List ℕ) (old mid : Doings (Posted V)) →
       ((numbers : ℕ → List ℕ) → IsProcess width n limit (stamped opening) i (did_with calls numbers old)) →
-      length steps ≡ (n - 1) * width → mid.times ≡ old.times ++ steps → slice_get steps 0 ≡ Some begin → length answers + 1 ≡ n →
+      KeepsItsWord width n i old.times calls old.said old.found → length steps ≡ (n - 1) * width →
+      mid.times ≡ old.times ++ steps → slice_get steps 0 ≡ Some begin → length answers + 1 ≡ n →
       ((e : ℕ) (answer : Posted V) → slice_get answers e ≡ Some answer →
       IsInterval width steps e (old.reads (other i e)).begins (old.reads (other i e)).ends (mid.reads (other i e)).begins
       (mid.reads (other i e)).ends × ((mid.reads (other i e)).items ≡ (old.reads (other i e)).items ++ answer ∷ [])) →
-      KeepsEach old.writes mid.writes → seen ≡ greatest_posted own answers →
+      KeepsEach old.writes mid.writes → (mid.said ≡ old.said) × (mid.found ≡ old.found) → seen ≡ greatest_posted own answers →
       stamped own ≡ own_before (stamped opening) calls (length calls) →
       ((place : ℕ) → ChoosesByKind limit (record { place = place; who = i; kind = kind; stamp = item.stamp; item = item.item })
       kind seen.stamp seen.item) →
       MayWriteEach (MakesCalls opening width n limit i) width n i item mid
-  row_allowed calls kind begin seen own item answers steps old mid process long times first each reads kept saw had chooses
+  row_allowed calls kind begin seen own item answers steps old mid process word long times first each reads kept tags saw had chooses
       count now l before made new begun few h =
       let w : WritesOthers width i some item (count + 1) (count * width + made) mid new =
       writes_part width i some item count made mid now new before h in
@@ -279,6 +294,7 @@ module _ {V : Type 0} (width n limit i : ℕ) (opening : Posted V) (two : 2 ≤ 
         seen = stamped seen;
         chosen = stamped item;
         tells = true;
+        finds = false;
       } in (
         calls ++ call ∷ [],
         λ numbers. row_begun width n limit (stamped opening) i (did_with calls numbers old) (did_with (calls ++ call ∷ []) numbers new) call
@@ -329,6 +345,13 @@ module _ {V : Type 0} (width n limit i : ℕ) (opening : Posted V) (two : 2 ≤ 
               sees = ap stamped saw ∙ stamped_greatest own answers ∙ ap (λ o. greatest_stamped o (map stamped answers)) had;
               chooses = chooses;
             }),
+        subst (λ (z : List ℕ × List Said × List Found). KeepsItsWord width n i z.0 (calls ++ call ∷ []) z.1 z.2)
+            (λ j. (
+              sym (w.times ∙ ap (λ ts. ts ++ w.steps) times ∙ append_assoc old.times steps w.steps) j,
+              sym (w.tags.0 ∙ tags.0) j,
+              sym (w.tags.1 ∙ tags.1) j,
+            ))
+            (word_told width n i two some old.times (steps ++ w.steps) calls (process (λ j. [])).long call old.said old.found refl word),
       )
 
   -- calls that have all ended
@@ -346,6 +369,76 @@ module _ {V : Type 0} (width n limit i : ℕ) (opening : Posted V) (two : 2 ≤ 
         writes = λ e l. refl;
       })
 
+  -- after a look that finds the record told: the column was made, and the record was chosen by a read
+  pub find_allowed : (calls : List (Called V)) (begin : ℕ) (own item : Posted V) (answers : List (Posted V))
+      (steps : List ℕ) (old mid : Doings (Posted V)) →
+      ((numbers : ℕ → List ℕ) → IsProcess width n limit (stamped opening) i (did_with calls numbers old)) →
+      KeepsItsWord width n i old.times calls old.said old.found → length steps ≡ (n - 1) * width →
+      mid.times ≡ old.times ++ steps → slice_get steps 0 ≡ Some begin → length answers + 1 ≡ n →
+      ((e : ℕ) (answer : Posted V) → slice_get answers e ≡ Some answer →
+      IsInterval width steps e (old.reads (other i e)).begins (old.reads (other i e)).ends (mid.reads (other i e)).begins
+      (mid.reads (other i e)).ends × ((mid.reads (other i e)).items ≡ (old.reads (other i e)).items ++ answer ∷ [])) →
+      KeepsEach old.writes mid.writes → (mid.said ≡ old.said) × (mid.found ≡ old.found) → item ≡ greatest_posted own answers →
+      stamped own ≡ own_before (stamped opening) calls (length calls) →
+      MayFind (MakesCalls opening width n limit i) item.stamp.writer item.stamp.tag mid
+  find_allowed calls begin own item answers steps old mid process word long times first each reads kept tags saw had time =
+      let call : Called V = record {
+        begin = begin;
+        end = time;
+        kind = Read;
+        seen = stamped item;
+        chosen = stamped item;
+        tells = false;
+        finds = true;
+      } in
+      let one : Found = record { who = item.stamp.writer; tag = item.stamp.tag; time = time } in
+      let next : Doings (Posted V) = record mid { times = mid.times ++ time ∷ []; found = mid.found ++ one ∷ [] } in
+      let all : mid.times ++ time ∷ [] ≡ old.times ++ (steps ++ time ∷ []) = ap (λ ts. ts ++ time ∷ []) times
+      ∙ append_assoc old.times steps (time ∷ []) in
+      let more : length (steps ++ time ∷ []) ≡ (n - 1) * width + 1 = length-append steps (time ∷ []) ∙ ap (λ m. m + 1) long in
+      let last : slice_get (steps ++ time ∷ []) ((n - 1) * width) ≡ Some time = get_last steps time ((n - 1) * width) (sym long) in
+      let made : (numbers : ℕ → List ℕ) → IsProcess width n limit (stamped opening) i (did_with (calls ++ call ∷ []) numbers next) =
+      λ numbers. call_made width n limit (stamped opening) i (did_with calls numbers old) (did_with (calls ++ call ∷ []) numbers next) call
+      two some (process numbers) (record {
+        calls = refl;
+        steps = steps ++ time ∷ [];
+        long = more;
+        begun = get_before steps (time ∷ []) 0 (slice_get_within steps 0 begin first) ∙ first;
+        ended = ap (slice_get (steps ++ time ∷ [])) (let z : (n - 1) * width + 1 - 1 ≡ (n - 1) * width = omega arith in z) ∙ last;
+        times = all;
+        answers = map stamped answers;
+        each = ap (λ m. m + 1) (length-map answers stamped) ∙ each;
+        reads = λ e answer there.
+            let x = get_map_back stamped answers e answer there in
+            let le : e < n - 1 = let a = slice_get_within answers e x.0 x.1 in let b = each in omega arith in
+            let y = reads e x.0 x.1 in
+            record {
+              interval = stays width steps (time ∷ []) e (n - 1) _ _ _ _ long le some y.0;
+              items = ap (map stamped) y.1 ∙ map-append stamped (old.reads (other i e)).items (x.0 ∷ [])
+                  ∙ ap (λ z. map stamped (old.reads (other i e)).items ++ z ∷ []) x.2;
+            };
+        writes = λ e l t. absurd (not_both false t refl);
+        unwritten = λ e l f. ap written_by (kept (other i e));
+        silent = λ f g. absurd (not_both true refl g);
+        sees = ap stamped saw ∙ stamped_greatest own answers ∙ ap (λ o. greatest_stamped o (map stamped answers)) had;
+        chooses = λ place. (refl, refl);
+      }) in
+      let is_last : slice_get (calls ++ call ∷ []) (length calls) ≡ Some call = get_last calls call (length calls) refl in
+      let word' : KeepsItsWord width n i (old.times ++ (steps ++ time ∷ [])) (calls ++ call ∷ []) (old.said ++ []) (old.found ++ one ∷ []) =
+      word_more width n i two some old.times (steps ++ time ∷ []) calls (process (λ j. [])).long call old.said [] old.found (one ∷ []) word
+      (λ x s e. absurd (none-some s e))
+      (λ end t f g. (
+        0,
+        ap (λ (z : ℕ). Some (record { who = item.stamp.writer; tag = item.stamp.tag; time = z }))
+            (same_Some time end (sym ((made (λ j. [])).ended (length calls) call is_last)
+            ∙ ap (λ ts. end_among width n ts (calls ++ call ∷ []) (length calls) call) all ∙ g)),
+      )) in (
+        calls ++ call ∷ [],
+        λ numbers. whole_so_far (calls ++ call ∷ []) numbers next (made numbers),
+        subst (λ (z : List ℕ × List Said × List Found). KeepsItsWord width n i z.0 (calls ++ call ∷ []) z.1 z.2)
+            (λ j. (sym all j, (append-nil old.said ∙ sym tags.0) j, ap (λ z. z ++ one ∷ []) (sym tags.1) j)) word',
+      )
+
   -- a process that has made no step
   pub none_allowed : (done : Doings (Posted V)) → HasNoSteps done → MakesCalls opening width n limit i done
   none_allowed done none = (
@@ -359,4 +452,8 @@ module _ {V : Type 0} (width n limit i : ℕ) (opening : Posted V) (two : 2 ≤ 
           reads = λ j. ap (answered_by []) (none.reads j);
           writes = λ j. ap written_by (none.writes j);
         }))),
+    record {
+      says = λ x s e. absurd (none-some s (ap (λ z. slice_get z x) (sym none.tags.0) ∙ e));
+      finds = λ k end c e. absurd (none-some c e);
+    },
   )

@@ -6,18 +6,21 @@ use Rattle.std.proofs.lemmas.Bool.{cases_eq}
 use Rattle.cell_contract.specs.declared.times.Known.{Known}
 use Rattle.cell_contract.specs.Running.{last_or}
 use Rattle.cell_contract.specs.declared.family.Family.{Ghosts as FamilyWords}
-use Rattle.cell_contract.specs.Accesses.{IsHeardRead, KeepsEach, KeepsOthers}
+use Rattle.cell_contract.specs.declared.said.Said.{Said}
+use Rattle.cell_contract.specs.declared.said.Found.{Found}
+use Rattle.cell_contract.specs.Accesses.{IsHeardRead, KeepsEach, KeepsOthers, WriteAccesses}
 use Rattle.matrix_core.specs.declared.stamp.Stamped.{Stamped}
 use Rattle.matrix_core.specs.Stamps.{greatest}
 use Rattle.matrix_core.specs.Lines.{other}
 use Rattle.matrix_core.proofs.lines.Others.{other_differs}
-use Rattle.board_history.specs.BoardRuns.{Answered, AreReads, AreWrites, Called, Did, IsProcess, own_before, records}
-use Rattle.board_history.specs.BoardRuns.{steps_before, steps_of_call, told}
+use Rattle.board_history.specs.BoardRuns.{Answered, AreReads, AreWrites, Called, Did, end_among, IsProcess, own_before, records}
+use Rattle.board_history.specs.BoardRuns.{steps_before, told}
 use Rattle.board_live.specs.declared.board.Board.{Board}
 use Rattle.board_live.specs.declared.board.Pass.{Pass}
 use Rattle.board_live.specs.declared.record.Posted.{Posted}
 use Rattle.board_live.specs.Passes.{answered_of, did_of, HasSame, IsPass, written_of}
-use Rattle.board_live.specs.Records.{stamped}
+use Rattle.board_live.specs.Plans.{KeepsItsWord}
+use Rattle.board_live.specs.Records.{Rises, stamped}
 
 -- the reads of a process are the same, but for what it was told
 pub record AreSameReads {V : Type 0} (old new : Answered V) : Type 0 where
@@ -64,7 +67,7 @@ same_process {V} width n limit first i old new times calls reads writes h = reco
   long = ap length times ∙ h.long ∙ ap (λ cs. steps_before width n cs (length cs)) (sym calls);
   begun = λ k c e. ap (λ (z : List ℕ × List (Called V)). slice_get z.0 (steps_before width n z.1 k)) (λ j. (times j, calls j))
       ∙ h.begun k c (ap (λ cs. slice_get cs k) (sym calls) ∙ e);
-  ended = λ k c e. ap (λ (z : List ℕ × List (Called V)). slice_get z.0 (steps_before width n z.1 k + (steps_of_call width n c.tells - 1)))
+  ended = λ k c e. ap (λ (z : List ℕ × List (Called V)). end_among width n z.0 z.1 k c)
       (λ j. (times j, calls j))
       ∙ h.ended k c (ap (λ cs. slice_get cs k) (sym calls) ∙ e);
   reads = λ e l. same_reads width n old new e _ _ _ _ times calls (reads e).begins (reads e).ends (h.reads e l);
@@ -72,7 +75,7 @@ same_process {V} width n limit first i old new times calls reads writes h = reco
   writes = λ e l. same_writes width n old new (n - 1 + e) _ _ _ _ times calls (ap (λ w. w.begins) (writes e)) (ap (λ w. w.ends) (writes e))
       (h.writes e l);
   written = λ e l. ap (λ w. w.items) (writes e) ∙ h.written e l ∙ ap records (sym calls);
-  silent = λ k c e t. h.silent k c (ap (λ cs. slice_get cs k) (sym calls) ∙ e) t ∙ ap (λ cs. own_before first cs k) (sym calls);
+  silent = λ k c e t f. h.silent k c (ap (λ cs. slice_get cs k) (sym calls) ∙ e) t f ∙ ap (λ cs. own_before first cs k) (sym calls);
   sees = λ k c e.
       let s = h.sees k c (ap (λ cs. slice_get cs k) (sym calls) ∙ e) in
       record {
@@ -98,6 +101,15 @@ module _ {V F S T : Type 0} (words : FamilyWords F (Posted V) S T) (n limit proc
         ends = ap (λ r. r.times.ends) r;
       })
       (λ e. ap written_of (writes (other process e))) h
+
+  -- the same steps and tags keep its word
+  pub still_kept : (old new : S) → words.times new ≡ words.times old →
+      (words.said new ≡ words.said old) × (words.found new ≡ words.found old) →
+      KeepsItsWord words.width n process (words.times old) calls (words.said old) (words.found old) →
+      KeepsItsWord words.width n process (words.times new) calls (words.said new) (words.found new)
+  still_kept old new times tags w =
+      subst (λ (z : List ℕ × List Said × List Found). KeepsItsWord words.width n process z.0 calls z.1 z.2)
+      (λ k. (sym times k, sym tags.0 k, sym tags.1 k)) w
 
   pub after_learn : (old new : S) (sender : ℕ) (item : Posted V) (carried : Known (Posted V)) → words.times new ≡ words.times old →
       KeepsEach (words.writes old) (words.writes new) →
@@ -145,6 +157,9 @@ module _ {V F S T : Type 0} (words : FamilyWords F (Posted V) S T) (obeys : V �
     seat = seat;
     who = who ∙ of.who ∙ sym same.process;
     lawful = subst (λ z. IsTrue (obeys z.item)) (sym same.own) of.lawful;
-    last = λ j l ne. ap (λ w. last_or board.first w.items) (same.writes j) ∙ of.last j l (λ e. ne (e ∙ sym same.process)) ∙ sym same.own;
+    below = λ j l ne. subst (λ (z : WriteAccesses (Posted V) × Posted V). Rises (last_or board.first z.0.items) z.1)
+        (λ k. (sym (same.writes j) k, sym same.own k)) (of.below j l (λ e. ne (e ∙ sym same.process)));
+    last = λ t j l ne. ap (λ w. last_or board.first w.items) (same.writes j)
+        ∙ of.last (sym same.told ∙ t) j l (λ e. ne (e ∙ sym same.process)) ∙ sym same.own;
     made = (of.made.0, same.made of.made.0 of.made.1);
   }

@@ -12,7 +12,8 @@ use Rattle.board_live.specs.declared.board.Pass.{Pass}
 use Rattle.board_live.specs.declared.record.Posted.{Posted}
 use Rattle.board_live.specs.Ends.{AllPasses}
 use Rattle.board_live.specs.Passes.{did_of, IsPass}
-use Rattle.board_live.specs.Records.{stamped}
+use Rattle.board_live.specs.Plans.{KeepsItsWord}
+use Rattle.board_live.specs.Records.{Rises, stamped}
 
 -- an element is one of the first, or the last
 pub of_more : {A : Type 0} (xs : List A) (x y : A) (i : ℕ) → slice_get (xs ++ x ∷ []) i ≡ Some y →
@@ -35,9 +36,9 @@ only_one (z ∷ zs) x y e =
     absurd (omega (arith, n))
 
 module _ {V F S T : Type 0} (words : FamilyWords F (Posted V) S T) (obeys : V → Bool) (board : Board V F S T) where
-  with_room : (p q : Pass V F S T) → IsPass words obeys board p → q.process ≡ p.process → q.own ≡ p.own → q.seat ≡ p.seat →
-      vec_capacity q.room ≡ vec_capacity p.room → q.room.items ≡ [] → IsPass words obeys board q
-  with_room p q h process own seat capacity empty = record {
+  with_room : (p q : Pass V F S T) → IsPass words obeys board p → q.process ≡ p.process → q.own ≡ p.own → q.told ≡ p.told →
+      q.seat ≡ p.seat → vec_capacity q.room ≡ vec_capacity p.room → q.room.items ≡ [] → IsPass words obeys board q
+  with_room p q h process own told seat capacity empty = record {
     size = h.size;
     some = h.some;
     processes = h.processes;
@@ -52,7 +53,10 @@ module _ {V F S T : Type 0} (words : FamilyWords F (Posted V) S T) (obeys : V �
     seat = subst (λ z. words.is_seat board.family z) (sym seat) h.seat;
     who = ap words.who seat ∙ h.who ∙ sym process;
     lawful = subst (λ z. IsTrue (obeys z.item)) (sym own) h.lawful;
-    last = λ j l ne. ap (λ z. last_or board.first (words.writes z j).items) seat ∙ h.last j l (λ e. ne (e ∙ sym process)) ∙ sym own;
+    below = λ j l ne. subst (λ (z : S × Posted V). Rises (last_or board.first (words.writes z.0 j).items) z.1)
+        (λ k. (sym seat k, sym own k)) (h.below j l (λ e. ne (e ∙ sym process)));
+    last = λ t j l ne. ap (λ z. last_or board.first (words.writes z j).items) seat
+        ∙ h.last (sym told ∙ t) j l (λ e. ne (e ∙ sym process)) ∙ sym own;
     made = (
       h.made.0,
       record {
@@ -61,14 +65,16 @@ module _ {V F S T : Type 0} (words : FamilyWords F (Posted V) S T) (obeys : V �
             (subst (λ z. IsProcess words.width board.processes board.limit (stamped board.first) p.process (did_of words z h.made.0))
             (sym seat) h.made.1.made);
         own = ap stamped own ∙ h.made.1.own;
+        word = subst (λ (z : ℕ × S). KeepsItsWord words.width board.processes z.0 (words.times z.1) h.made.0 (words.said z.1)
+            (words.found z.1)) (λ k. (sym process k, sym seat k)) h.made.1.word;
       },
     );
   }
 
   pub all_again : (passes left : List (Pass V F S T)) (p q : Pass V F S T) → AllPasses words obeys board passes → passes ≡ left ++ p ∷ [] →
-      q.process ≡ p.process → q.own ≡ p.own → q.seat ≡ p.seat → vec_capacity q.room ≡ vec_capacity p.room → q.room.items ≡ [] →
-      AllPasses words obeys board (left ++ q ∷ [])
-  all_again passes left p q all is process own seat capacity empty =
+      q.process ≡ p.process → q.own ≡ p.own → q.told ≡ p.told → q.seat ≡ p.seat → vec_capacity q.room ≡ vec_capacity p.room →
+      q.room.items ≡ [] → AllPasses words obeys board (left ++ q ∷ [])
+  all_again passes left p q all is process own told seat capacity empty =
       let n : length passes ≡ length left + 1 = ap length is ∙ length-append left (p ∷ []) in
       let m : length (left ++ q ∷ []) ≡ length left + 1 = length-append left (q ∷ []) in
       let there : (i : ℕ) (r : Pass V F S T) → slice_get (left ++ p ∷ []) i ≡ Some r → slice_get passes i ≡ Some r =
@@ -79,7 +85,7 @@ module _ {V F S T : Type 0} (words : FamilyWords F (Posted V) S T) (obeys : V �
         each = λ i r e. elim (of_more left q r i e) [
           | inl a ↦ all.each i r (there i r (in_front left p r i a))
           | inr b ↦ subst (λ z. IsPass words obeys board z × (z.process ≡ i)) b.1
-              (with_room p q old.0 process own seat capacity empty, process ∙ old.1 ∙ sym b.0)
+              (with_room p q old.0 process own told seat capacity empty, process ∙ old.1 ∙ sym b.0)
         ];
       }
     where

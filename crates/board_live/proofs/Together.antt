@@ -19,11 +19,12 @@ use Rattle.board_live.specs.declared.board.Pass.{Pass}
 use Rattle.board_live.specs.declared.record.Posted.{Posted}
 use Rattle.board_live.specs.Left.{HasOrderWith, HaveAtomicOrderWith, HaveMade, SomePasses}
 use Rattle.board_live.specs.Passes.{did_of, IsPass}
-use Rattle.board_live.specs.Plans.{did_with, MakesCalls}
+use Rattle.board_live.specs.Plans.{did_with, KeepsItsWord, MakesCalls}
 use Rattle.board_live.specs.Records.{stamped}
 use Rattle.board_live.proofs.Plans.{whole_so_far}
 use Rattle.board_live.proofs.Same.{same_process}
 use Rattle.board_live.proofs.Whole.{stamped_register}
+use Rattle.board_live.proofs.Words.{told_then}
 
 module _ {V F S T : Type 0} where
   -- the pass of a process, if it is among these
@@ -58,9 +59,9 @@ module _ {V F S T : Type 0} (words : FamilyWords F (Posted V) S T) (obeys : V �
     (passes : List (Pass V F S T)) (some : 0 < length passes) (of : SomePasses words obeys board passes)
     (calls : ℕ → List (Called V)) (made : HaveMade words board passes calls) (one : S)
     (all : AreSoFar (MakesCalls board.first words.width board.processes board.limit) board.first board.processes (words.who one)
-    (words.times one) (words.writes one) (words.reads one))
+    (words.times one) (words.writes one) (words.reads one) (words.said one) (words.found one))
     (known : (x : ℕ) (p : Pass V F S T) → slice_get passes x ≡ Some p →
-    all.done p.process ≡ doings (words.times p.seat) (words.writes p.seat) (words.reads p.seat))
+    all.done p.process ≡ doings (words.times p.seat) (words.writes p.seat) (words.reads p.seat) (words.said p.seat) (words.found p.seat))
     (numbers : (x i : ℕ) (p : Pass V F S T) → slice_get passes x ≡ Some p →
     all.numbers i p.process ≡ (words.reads p.seat i).numbers) where
   abbrev n : ℕ
@@ -82,7 +83,8 @@ module _ {V F S T : Type 0} (words : FamilyWords F (Posted V) S T) (obeys : V �
       IsProcessSoFar words.width n board.limit (stamped board.first) p.process
       (did_with (calls p.process) ns (all.done p.process))
   mine x p e ns =
-      let own : Doings (Posted V) = doings (words.times p.seat) (words.writes p.seat) (words.reads p.seat) in
+      let own : Doings (Posted V) = doings (words.times p.seat) (words.writes p.seat) (words.reads p.seat) (words.said p.seat)
+      (words.found p.seat) in
       subst (λ (z : Doings (Posted V)). IsProcessSoFar words.width n board.limit (stamped board.first) p.process
       (did_with (calls p.process) ns z)) (sym (known x p e))
       (whole_so_far words.width n board.limit p.process board.first (of x p e).size.0 (of x p e).some (calls p.process) ns own
@@ -97,6 +99,20 @@ module _ {V F S T : Type 0} (words : FamilyWords F (Posted V) S T) (obeys : V �
       (mine h.place h.pass h.at ns)
   made_by i ns (inr away) (inl lt) l = (all.planned i lt).1 ns
   made_by i ns (inr away) (inr ge) l = absurd (omega arith)
+
+  abbrev KeepsAt : ℕ → List (Called V) → Type 0
+  KeepsAt i cs = KeepsItsWord words.width n i (all.done i).times cs (all.done i).said (all.done i).found
+
+  word_by : (i : ℕ) (h : IsHere passes i ⊎ IsAway passes i) (c : (i < n) ⊎ (n ≤ i)) → i < n → KeepsAt i (calls_by i h c)
+  word_by i (inl h) c l =
+      subst (λ z. KeepsAt z (calls z)) h.is
+      (subst (λ (z : Doings (Posted V)). KeepsItsWord words.width n h.pass.process z.times (calls h.pass.process) z.said z.found)
+      (sym (known h.place h.pass h.at)) (made h.place h.pass h.at).word)
+  word_by i (inr away) (inl lt) l = (all.planned i lt).2
+  word_by i (inr away) (inr ge) l = absurd (omega arith)
+
+  words_by : (i : ℕ) → i < n → KeepsAt i (did i).calls
+  words_by i l = word_by i (here_or_away passes i) (cases_lt i n) l
 
   own_calls : (x : ℕ) (p : Pass V F S T) → slice_get passes x ≡ Some p →
       (h : IsHere passes p.process ⊎ IsAway passes p.process) (c : (p.process < n) ⊎ (n ≤ p.process)) →
@@ -122,6 +138,9 @@ module _ {V F S T : Type 0} (words : FamilyWords F (Posted V) S T) (obeys : V �
     within = all.schedule;
     scheduled = all.made;
     each = λ i l. made_by i (λ j. all.numbers j i) (here_or_away passes i) (cases_lt i n) l;
+    finds = λ i k end c l. told_then words.width n did i k end c (all.done i).said (all.done i).found (words_by i l) (λ x f e.
+        let h = all.finds i x f l e in
+        record { who = h.0; said = (all.done f.who).said; found = (all.done f.who).found; word = words_by f.who h.0; was = h.1 });
     registers = λ i j li lj ne. stamped_register board.first _ _ _ _ _ (all.registers i j li lj ne);
   }
 
@@ -150,7 +169,8 @@ module _ {V F S T : Type 0} (words : FamilyWords F (Posted V) S T) (obeys : V �
 
   abbrev IsShown : Posted V → ℕ → ℕ → Type 0
   IsShown opening n limit =
-      AreSoFarWith (MakesCalls opening words.width n limit) opening n words.who words.times words.writes words.reads seats
+      AreSoFarWith (MakesCalls opening words.width n limit) opening n words.who words.times words.writes words.reads words.said
+      words.found seats
 
   -- by the family's words
   pub ordered_with : 0 < length passes → IsShown (words.opening board.family) (words.processes board.family) (words.limit board.family) →

@@ -8,7 +8,8 @@ use Rattle.history_core.specs.Registers.{Intervals, IsRegular}
 use Rattle.history_core.specs.Schedules.{positions}
 use Rattle.cell_contract.specs.declared.family.Family.{Ghosts as FamilyWords}
 use Rattle.cell_contract.specs.Accesses.{ReadAccesses, WriteAccesses}
-use Rattle.cell_contract.specs.Ends.{Each, EachTwo, IsAtomicCell, IsSchedule}
+use Rattle.cell_contract.specs.declared.said.Found.{Found}
+use Rattle.cell_contract.specs.Ends.{Each, EachTwo, FindWhatWasSaid, IsAtomicCell, IsSchedule, WasSaid}
 use Rattle.matrix_core.specs.declared.stamp.Stamped.{Stamped}
 use Rattle.matrix_core.specs.Choices.{IsAtMost}
 use Rattle.matrix_core.specs.Lines.{first_record}
@@ -23,7 +24,9 @@ use Rattle.board_live.specs.declared.record.Posted.{Posted}
 use Rattle.board_live.specs.Ends.{AllAtomic, AllPasses, did_at, did_by, HaveAtomicOrder, IsGreatest}
 use Rattle.board_live.specs.inner.Room.{HaveRoom}
 use Rattle.board_live.specs.Passes.{answered_of, did_of, IsPass, written_of}
+use Rattle.board_live.specs.Plans.{KeepsItsWord}
 use Rattle.board_live.specs.Records.{stamped}
+use Rattle.board_live.proofs.Words.{IsTruthOf, told_then}
 
 -- a register of records with their stamps, as a played board has it; and one of the family
 pub stamped_register : {V : Type 0} (first : Posted V) (items : List (Posted V)) (writes : Intervals) (answers : List (Posted V))
@@ -87,8 +90,8 @@ module _ {V F S T : Type 0} (words : FamilyWords F (Posted V) S T) (obeys : V �
     pub all_atomic : (last : Posted V) → IsGreatest passes last →
         (steps : List ℕ) × IsSchedule (words.processes board.family) steps × Each (λ i s. words.times s ≡ positions 1 i steps) seats →
         EachTwo (λ i j s t. IsAtomicCell (words.opening board.family) (words.writes s j) (words.reads t i)) seats →
-        HaveAtomicOrder words board passes last
-    all_atomic last greatest scheduled registers calls made =
+        FindWhatWasSaid words.said words.found seats → HaveAtomicOrder words board passes last
+    all_atomic last greatest scheduled registers finds calls made =
         let there = all_there words.width board.processes board.limit board.first.item scheduled.0 (did_by words passes calls) run in
         record {
           ops = there.0;
@@ -142,6 +145,32 @@ module _ {V F S T : Type 0} (words : FamilyWords F (Posted V) S T) (obeys : V �
             (subst (λ f. IsRegister f (written_of (words.writes p.0.seat j)) (answered_of (words.reads q.0.seat i))) first_is
             (register board.first (words.writes p.0.seat j) (words.reads q.0.seat i) cell)))
 
+        word_at : (i : ℕ) (p : Pass V F S T) → slice_get passes i ≡ Some p →
+            KeepsItsWord words.width board.processes i (did_by words passes calls i).times (did_by words passes calls i).calls
+            (words.said p.seat) (words.found p.seat)
+        word_at i p e =
+            subst (λ d. KeepsItsWord words.width board.processes i d.times d.calls (words.said p.seat) (words.found p.seat))
+            (sym (did_is i p e))
+            (subst (λ z. KeepsItsWord words.width board.processes z (words.times p.seat) (calls i) (words.said p.seat)
+            (words.found p.seat)) (all.each i p e).1 (made i p e).word)
+
+        truth_at : (i x : ℕ) (f : Found) (p : Pass V F S T) → slice_get passes i ≡ Some p → slice_get (words.found p.seat) x ≡ Some f →
+            IsTruthOf words.width board.processes (did_by words passes calls) f
+        truth_at i x f p at e =
+            let t = finds i x p.seat f (seat_at i p at) e in
+            let lw : f.who < board.processes = let a = slice_get_within seats f.who t.0 t.1 in
+            let b : length seats ≡ length passes = ap length of ∙ length-map passes (λ p. p.seat) in
+            let c = all.all in omega arith in
+            let q = pass_at f.who lw in
+            let same : t.0 ≡ q.0.seat = same_Some t.0 q.0.seat (sym t.1 ∙ seat_at f.who q.0 q.1) in
+            record {
+              who = lw;
+              said = words.said q.0.seat;
+              found = words.found q.0.seat;
+              word = word_at f.who q.0 q.1;
+              was = subst (λ z. WasSaid (words.said z) f) same t.2;
+            }
+
         run : IsBoardRun words.width board.processes board.limit (first_record board.first.item) scheduled.0 (did_by words passes calls)
         run = record {
           size = (first_pass.1.size.0, first_pass.1.size.1, first_pass.1.some);
@@ -150,6 +179,10 @@ module _ {V F S T : Type 0} (words : FamilyWords F (Posted V) S T) (obeys : V �
               let p = pass_at i l in
               ap (λ d. d.times) (did_is i p.0 p.1) ∙ scheduled.2 i p.0.seat (seat_at i p.0 p.1);
           each = λ i l. process_at i l;
+          finds = λ i k end c l.
+              let p = pass_at i l in
+              told_then words.width board.processes (did_by words passes calls) i k end c (words.said p.0.seat) (words.found p.0.seat)
+              (word_at i p.0 p.1) (λ x f e. truth_at i x f p.0 p.1 e);
           registers = λ i j li lj ne. register_at i j li lj ne;
         }
 

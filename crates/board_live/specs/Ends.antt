@@ -30,8 +30,8 @@ module _ {V F S T : Type 0} where
         IsBelow p.own.stamp last.stamp
 
 -- a pass but for the memory that it keeps for the board's end
-abbrev pub standing : {V F S T : Type 0} → Pass V F S T → ℕ × Posted V × S
-standing p = (p.process, p.own, p.seat)
+abbrev pub standing : {V F S T : Type 0} → Pass V F S T → ℕ × Posted V × Bool × S
+standing p = (p.process, p.own, p.told, p.seat)
 
 module _ {V F S T : Type 0} (words : FamilyWords F (Posted V) S T) where
   -- the passes of all processes, in their order

@@ -17,6 +17,7 @@ use Rattle.board_live.specs.declared.board.Board.{Board}
 use Rattle.board_live.specs.declared.board.Pass.{Pass}
 use Rattle.board_live.specs.declared.board.Refused.{Refused}
 use Rattle.board_live.specs.declared.record.Posted.{Posted}
+use Rattle.board_live.specs.Plans.{KeepsItsWord}
 use Rattle.board_live.specs.Records.{greatest_posted, Rises, stamped}
 
 module _ {V : Type 0} where
@@ -56,8 +57,11 @@ module _ {V F S T : Type 0} (family : FamilyWords F (Posted V) S T) where
     pub made : IsProcess family.width board.processes board.limit (stamped board.first) pass.process
         (did_of pass.seat calls)
     pub own : stamped pass.own ≡ own_before (stamped board.first) calls (length calls)
+    pub word : KeepsItsWord family.width board.processes pass.process (family.times pass.seat) calls
+        (family.said pass.seat) (family.found pass.seat)
 
-  -- the pass is of this board, some calls were made with it, and its process has written its own record last
+  -- the pass is of this board, and some calls were made with it. No register of its process holds a record above its
+  -- own one, and if that was told each of them holds it
   pub record IsPass (obeys : V → Bool) (board : Board V F S T) (pass : Pass V F S T) : Type 0 where
     pub size : (2 ≤ board.processes) × (board.processes ≤ 16)
     pub some : 0 < family.width
@@ -70,7 +74,9 @@ module _ {V F S T : Type 0} (family : FamilyWords F (Posted V) S T) where
     pub seat : family.is_seat board.family pass.seat
     pub who : family.who pass.seat ≡ pass.process
     pub lawful : IsTrue (obeys pass.own.item)
-    pub last : (j : ℕ) → j < board.processes → j ≢ pass.process →
+    pub below : (j : ℕ) → j < board.processes → j ≢ pass.process →
+        Rises (last_or board.first (family.writes pass.seat j).items) pass.own
+    pub last : pass.told ≡ true → (j : ℕ) → j < board.processes → j ≢ pass.process →
         last_or board.first (family.writes pass.seat j).items ≡ pass.own
     pub made : (calls : List (Called V)) × HasMade board pass calls
 
@@ -90,9 +96,10 @@ module _ {V F S T : Type 0} (family : FamilyWords F (Posted V) S T) where
 
   -- *A call*: its process saw this record, the greatest of its own and of one answer of each other process, none of
   -- which is below what it was told of that one; and it wrote the record that it chose to each, or it wrote nothing,
-  -- where it chose its own record. The call begins after all that the process knew of, and takes so many steps: of a
-  -- read of each other process, and of a write to each where it tells what it chose. All of the calls that were made
-  -- with the pass are those made before and this one
+  -- where it chose its own record, or found that the writer of what it chose had said this tag or a greater one. The
+  -- call begins after all that the process knew of, and takes so many steps: of a read of each other process, and of a
+  -- write to each where it tells what it chose, or one where it found this. All of the calls that were made with the
+  -- pass are those made before and this one
   pub record IsCall (obeys : V → Bool) (board : Board V F S T) (kind : Kind) (old new : Pass V F S T)
       (seen : Posted V) : Type 0 where
     pub process : new.process ≡ old.process
@@ -113,11 +120,20 @@ module _ {V F S T : Type 0} (family : FamilyWords F (Posted V) S T) where
     pub rises : Rises old.own seen
     pub onward : Rises seen new.own
     pub tells : Bool
+    pub finds : Bool
     pub steps : length (family.times new.seat)
-        ≡ length (family.times old.seat) + steps_of_call family.width board.processes tells
+        ≡ length (family.times old.seat) + steps_of_call family.width board.processes tells finds
     pub written : tells ≡ true → (j : ℕ) → j < board.processes → j ≢ old.process →
         IsWriteAccess (family.writes old.seat j) (family.writes new.seat j) new.own
-    pub unwritten : tells ≡ false → KeepsEach (family.writes old.seat) (family.writes new.seat) × (new.own ≡ old.own)
+    pub unwritten : tells ≡ false → KeepsEach (family.writes old.seat) (family.writes new.seat)
+    pub silent : tells ≡ false → finds ≡ false → (new.own ≡ old.own) × (new.told ≡ old.told)
+    pub found : tells ≡ false → finds ≡ true → family.found new.seat ≡ family.found old.seat ++ record {
+      who = new.own.stamp.writer;
+      tag = new.own.stamp.tag;
+      time = end;
+    } ∷ []
+    pub told : tells ≡ true → new.told ≡ true
+    pub untold : tells ≡ false → finds ≡ true → new.told ≡ false
     pub made : (calls : List (Called V)) → HasMade board old calls → HasMade board new (calls ++ record {
       begin = begin;
       end = end;
@@ -125,6 +141,7 @@ module _ {V F S T : Type 0} (family : FamilyWords F (Posted V) S T) where
       seen = stamped seen;
       chosen = stamped new.own;
       tells = tells;
+      finds = finds;
     } ∷ [])
 
 module _ {V F S T : Type 0} (family : FamilyWords F (Posted V) S T) where
@@ -132,6 +149,7 @@ module _ {V F S T : Type 0} (family : FamilyWords F (Posted V) S T) where
   pub record HasSame (board : Board V F S T) (old new : Pass V F S T) : Type 0 where
     pub process : new.process ≡ old.process
     pub own : new.own ≡ old.own
+    pub told : new.told ≡ old.told
     pub later : family.clock old.seat ≤ family.clock new.seat
     pub writes : KeepsEach (family.writes old.seat) (family.writes new.seat)
     pub made : (calls : List (Called V)) → HasMade family board old calls → HasMade family board new calls

@@ -1,12 +1,15 @@
 -- What a receipt tells (this project's own).
-use Rattle.std.specs.Prelude.{◌≡◌, ◌≢◌, ℕ, ◌<◌, ◌≤◌}
+use Rattle.std.specs.Prelude.{◌≡◌, ◌≢◌, Bool, ℕ, ◌<◌, ◌≤◌, true}
 use Rattle.cell_contract.specs.Intervals.{known_as}
 use Rattle.cell_contract.specs.declared.family.Family.{Ghosts as FamilyWords}
 use Rattle.cell_contract.specs.Accesses.{IsHeardRead, KeepsEach, KeepsOthers}
+use Rattle.history_core.specs.declared.history.Kind.TheVariants.{Read}
 use Rattle.board_live.specs.declared.board.Board.{Board}
 use Rattle.board_live.specs.declared.board.Pass.{Pass}
 use Rattle.board_live.specs.declared.receipts.Receipt.{Receipt}
 use Rattle.board_live.specs.declared.record.Posted.{Posted}
+use Rattle.board_live.specs.Passes.{IsBounded, IsCall}
+use Rattle.board_live.specs.SoFar.{HaveAtomicOrderSoFar}
 
 module _ {V F S T : Type 0} (family : FamilyWords F (Posted V) S T) where
   -- the receipt is of this board, and names its record of its sender to each other process
@@ -15,6 +18,14 @@ module _ {V F S T : Type 0} (family : FamilyWords F (Posted V) S T) where
     pub sender : family.sender receipt.told ≡ receipt.from
     pub inside : receipt.from < board.processes
     pub names : (j : ℕ) → j < board.processes → j ≢ receipt.from → family.named receipt.told j ≡ receipt.item
+
+  -- *Handed on*: a read was made, and its record was told to each other process
+  pub record HandsOn (obeys : V → Bool) (board : Board V F S T) (old new : Pass V F S T) : Type 0 where
+    pub call : IsCall family obeys board Read old new new.own
+    pub row : call.tells ≡ true
+    pub told : new.told ≡ true
+    pub bounded : IsBounded family board old new
+    pub so_far : HaveAtomicOrderSoFar family board new
 
   -- the receipt names its sender's own record, has the last time of which its sender knew, and carries all that its
   -- sender wrote to each other process, with the intervals; nothing was read

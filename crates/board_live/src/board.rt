@@ -17,6 +17,9 @@ pub struct Board<V: RecordLaw, F: Family<Posted<V>>> {
 pub struct Pass<V: RecordLaw, F: Family<Posted<V>>> {
     pub(crate) process: usize,
     pub(crate) own: Posted<V>,
+    /// Whether each register of the process holds its own record. Else a call that has ended told this one or a newer
+    /// one.
+    pub(crate) told: bool,
     pub(crate) seat: F::Seat,
     /// Room for the seats of all passes, which the last process's pass has, so that the board's end takes no memory. It
     /// isn't the board's: threads share that one, and a seat need not be `Sync`.

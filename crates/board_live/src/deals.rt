@@ -53,6 +53,7 @@ fn deal<V: RecordLaw, F: Family<Posted<V>>>(
         passes.push_reserved(Pass {
             process,
             own: first,
+            told: true,
             seat,
             room: room(alloc, passes.is_empty(), n)?,
         });

@@ -1,7 +1,7 @@
 //! What all calls are together: while the board goes on, and at its end.
 ghost use Rattle.std.specs.Prelude.{◌≡◌, ℕ, ◌+◌, ◌≤◌, ◌<◌, List, length, vec_len, vec_capacity, map};
 ghost use Rattle.history_core.specs.Schedules.{positions};
-ghost use Rattle.cell_contract.specs.Ends.{Each, EachTwo, IsSchedule, IsAtomicCell};
+ghost use Rattle.cell_contract.specs.Ends.{Each, EachTwo, FindWhatWasSaid, IsSchedule, IsAtomicCell};
 ghost use Rattle.board_live.specs.Ends.{AllAtomic, AllPasses, HaveAtomicOrder, IsGreatest, standing};
 ghost use Rattle.board_live.specs.inner.Room.{HaveRoom, in_order};
 
@@ -36,6 +36,7 @@ fn seats_of<V: RecordLaw, F: Family<Posted<V>>>(passes: Vec<Pass<V, F>>) -> Vec<
     let Pass {
         process: _,
         own: _,
+        told: _,
         seat,
         room,
     } = last;
@@ -48,6 +49,7 @@ fn seats_of<V: RecordLaw, F: Family<Posted<V>>>(passes: Vec<Pass<V, F>>) -> Vec<
         let Pass {
             process: _,
             own: _,
+            told: _,
             seat,
             room: _,
         } = pass;
@@ -75,6 +77,7 @@ fn shown<V: RecordLaw, F: Family<Posted<V>>>(
     ensures atomic { EachTwo
         (λ i j s t. IsAtomicCell (F.Family.opening family.now) (F.Family.writes s j) (F.Family.reads t i))
         (in_order passes.old.items seats.old.items) }
+    ensures finds { FindWhatWasSaid F.Family.said F.Family.found (in_order passes.old.items seats.old.items) }
 {
     let Some(pass) = passes.pop() else {
         seats.reverse();
@@ -85,6 +88,7 @@ fn shown<V: RecordLaw, F: Family<Posted<V>>>(
     let Pass {
         process,
         own,
+        told,
         seat,
         room,
     } = pass;
@@ -96,6 +100,7 @@ fn shown<V: RecordLaw, F: Family<Posted<V>>>(
     passes.push_reserved(Pass {
         process,
         own,
+        told,
         seat,
         room,
     });
@@ -119,6 +124,7 @@ impl<V: RecordLaw, F: Family<Posted<V>>> Board<V, F> {
         let Pass {
             process,
             own,
+            told,
             seat,
             room,
         } = pass;
@@ -131,6 +137,7 @@ impl<V: RecordLaw, F: Family<Posted<V>>> Board<V, F> {
         passes.push_reserved(Pass {
             process,
             own,
+            told,
             seat,
             room: seats,
         });

@@ -27,6 +27,7 @@ fn seats_left<V: RecordLaw, F: Family<Posted<V>>>(
         let Pass {
             process: _,
             own: _,
+            told: _,
             seat,
             room: _,
         } = pass;

@@ -1,7 +1,7 @@
 //! Receipts: what one process tells others.
-ghost use Rattle.std.specs.Prelude.{◌≡◌};
+ghost use Rattle.std.specs.Prelude.{◌≡◌, ◌≤◌, true, false};
 ghost use Rattle.board_live.specs.Passes.{IsPass, HasSame};
-ghost use Rattle.board_live.specs.Receipts.{HasLearnt, HasTold, IsDuplicate, IsReceipt};
+ghost use Rattle.board_live.specs.Receipts.{HandsOn, HasLearnt, HasTold, IsDuplicate, IsReceipt};
 
 use crate::board::{Board, Pass};
 use crate::record::{Posted, RecordLaw};
@@ -17,13 +17,22 @@ pub struct Receipt<V: RecordLaw, F: Family<Posted<V>>> {
 
 impl<V: RecordLaw, F: Family<Posted<V>>> Board<V, F> {
     /// Gives a receipt for all that the process has done and knows of, to whichever process. It
-    /// carries all that this one wrote.
+    /// carries all that this one wrote. If the process's own record wasn't told, a read hands it on first.
     pub fn tell(&self, pass: &mut Pass<V, F>) -> Receipt<V, F>
         requires { IsPass ⟦<F as Family<Posted<V>>>⟧ V.obeys self.now pass.old }
         ensures pass { IsPass ⟦<F as Family<Posted<V>>>⟧ V.obeys self.now pass.new }
-        ensures same { HasSame ⟦<F as Family<Posted<V>>>⟧ self.now pass.old pass.new }
-        ensures told { HasTold ⟦<F as Family<Posted<V>>>⟧ self.now pass.old pass.new result }
+        ensures process { pass.new.process ≡ pass.old.process }
+        ensures names { IsReceipt ⟦<F as Family<Posted<V>>>⟧ self.now result × (result.from ≡ pass.old.process)
+            × (result.item ≡ pass.new.own) }
+        ensures later { F.clock pass.old.seat ≤ F.time_of result.told }
+        ensures same { pass.old.told ≡ true → HasSame ⟦<F as Family<Posted<V>>>⟧ self.now pass.old pass.new }
+        ensures told { pass.old.told ≡ true → HasTold ⟦<F as Family<Posted<V>>>⟧ self.now pass.old pass.new result }
+        ensures handed { pass.old.told ≡ false →
+            (first : _) × HandsOn ⟦<F as Family<Posted<V>>>⟧ V.obeys self.now pass.old first
+            × HasSame ⟦<F as Family<Posted<V>>>⟧ self.now first pass.new
+            × HasTold ⟦<F as Family<Posted<V>>>⟧ self.now first pass.new result }
     {
+        self.tell_own(pass);
         let told = self.family.tell(&mut pass.seat);
         Receipt {
             from: pass.process,

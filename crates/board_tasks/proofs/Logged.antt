@@ -48,6 +48,7 @@ module _ {V F S T : Type 0} (family : FamilyWords F (Posted V) S T) (obeys : V �
         seen = stamped entry.seen;
         chosen = stamped p.own;
         tells = call.tells;
+        finds = call.finds;
       } in
       let rest = called p es new (before ++ c ∷ []) h.2 (call.made before made) in (
         c ∷ rest.0,

@@ -11,7 +11,8 @@ use Rattle.matrix_core.proofs.choices.Rise.{have_writes}
 use Rattle.board_history.specs.BoardRuns.{Called, Did}
 use Rattle.board_history.specs.Histories.{ChoseFrom}
 use Rattle.board_history.specs.HistoriesSoFar.{IsOpOfCallSoFar, IsHistorySoFar}
-use Rattle.board_history.specs.RunsSoFar.{end_of, IsBoardRunSoFar}
+use Rattle.board_history.specs.BoardRuns.{end_of}
+use Rattle.board_history.specs.RunsSoFar.{IsBoardRunSoFar}
 use Rattle.board_history.proofs.Atomic.{choices_there}
 use Rattle.board_history.proofs.There.{all_there}
 

@@ -2,7 +2,8 @@
 use Rattle.std.specs.Prelude.{◌≡◌, ◌⊎◌, Bool, true, ℕ, List, [], length, slice_get, Some}
 use Rattle.matrix_core.specs.Lines.{first_record}
 use Rattle.board_history.specs.BoardRuns.{Called, Did, IsBoardRun}
-use Rattle.board_history.specs.RunsSoFar.{end_of, IsBoardRunSoFar}
+use Rattle.board_history.specs.BoardRuns.{end_of}
+use Rattle.board_history.specs.RunsSoFar.{IsBoardRunSoFar}
 use Rattle.board_tasks.specs.declared.lane.Entry.{Entry}
 use Rattle.board_tasks.specs.Lost.{is_lost}
 use Rattle.board_tasks.specs.Worked.{EachTells}

@@ -16,7 +16,7 @@ mod sits;
 pub use calls::{read_place, read_place_since, write_place};
 pub use makes::make_places;
 pub use mark::Mark;
-pub use place::Place;
+pub use place::{HasPlace, Place, open_places};
 pub use posts::Posts;
 pub use seated::Seated;
 pub use sits::{Free, Sits, Sitting};

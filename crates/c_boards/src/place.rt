@@ -7,6 +7,8 @@ use std::sync::Arc;
 mod calls;
 mod seats;
 
+pub use seats::{HasPlace, open_places};
+
 /// The right to call as one of the processes of a board.
 #[derive(Drop)]
 pub struct Place<V: RecordLaw, F: Family<Posted<V>>> {

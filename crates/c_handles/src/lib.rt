@@ -8,9 +8,11 @@
 pub mod handles;
 mod layout;
 mod parts;
+mod place;
 mod record;
 mod side;
 
+pub use place::{FourSlotPlace, TriplePlace};
 pub use record::{
     Record8, Record24, Record64, Record256, Record1024, Record4096, Record65536, Record1048576,
 };

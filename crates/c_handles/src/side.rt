@@ -2,32 +2,30 @@
 //! What a handle can have, each in a struct of its own.
 ghost use Rattle.std.specs.Prelude.{◌≡◌};
 
+use crate::place::{FourSlotPlace, TriplePlace};
 use crate::record::{
     Record8, Record24, Record64, Record256, Record1024, Record4096, Record65536, Record1048576,
 };
-use board_live::Posted;
-use c_boards::{Place, Seated};
+use c_boards::Seated;
 use c_registers::{FourSlotReader, FourSlotWriter, TripleReader, TripleWriter, Wraps};
-use family_four_slot::FourSlotFamily;
-use family_triple::TripleFamily;
 
 /// A place at a board over four-slot cells with records of 24 bytes.
-pub type FourSlotSeat24 = Seated<Place<Record24, FourSlotFamily<Posted<Record24>>>>;
+pub type FourSlotSeat24 = Seated<FourSlotPlace<Record24>>;
 
 /// A place at a board over four-slot cells with records of 256 bytes.
-pub type FourSlotSeat256 = Seated<Place<Record256, FourSlotFamily<Posted<Record256>>>>;
+pub type FourSlotSeat256 = Seated<FourSlotPlace<Record256>>;
 
 /// A place at a board over four-slot cells with records of 4,096 bytes.
-pub type FourSlotSeat4096 = Seated<Place<Record4096, FourSlotFamily<Posted<Record4096>>>>;
+pub type FourSlotSeat4096 = Seated<FourSlotPlace<Record4096>>;
 
 /// A place at a board over triple buffers with records of 24 bytes.
-pub type TripleSeat24 = Seated<Place<Record24, TripleFamily<Posted<Record24>>>>;
+pub type TripleSeat24 = Seated<TriplePlace<Record24>>;
 
 /// A place at a board over triple buffers with records of 256 bytes.
-pub type TripleSeat256 = Seated<Place<Record256, TripleFamily<Posted<Record256>>>>;
+pub type TripleSeat256 = Seated<TriplePlace<Record256>>;
 
 /// A place at a board over triple buffers with records of 4,096 bytes.
-pub type TripleSeat4096 = Seated<Place<Record4096, TripleFamily<Posted<Record4096>>>>;
+pub type TripleSeat4096 = Seated<TriplePlace<Record4096>>;
 
 /// The writing side of a four-slot cell with records of 8 bytes.
 #[derive(Drop)]

@@ -8,6 +8,8 @@ use Rattle.std.proofs.lemmas.Bool.Decides.{nat_tests}
 use Rattle.history_core.specs.Others.{other}
 use Rattle.cell_contract.specs.Accesses.{ReadAccesses, WriteAccesses}
 use Rattle.cell_contract.specs.Rows.{OneByOne, IsReadFrom, IsWriteTo}
+use Rattle.cell_contract.specs.declared.said.Said.{Said}
+use Rattle.cell_contract.specs.declared.said.Found.{Found}
 use Rattle.cell_contract.specs.Rows.OneByOne.{no_call, one_more}
 
 below : (i k : ℕ) → k < i → other i k ≡ k
@@ -45,32 +47,37 @@ module _ {S : Type 0} (Call : ℕ → S → S → Type 0) (is_seat : S → Type 
       let own = keeps (other process count) now new call in (own.0, own.1 ∙ (stays_own count now r is).1)
 
 module _ {S L T : Type 0} (is_seat : S → Type 0) (who clock : S → ℕ) (times : S → List ℕ) (writes : S → ℕ → WriteAccesses T)
-    (reads : S → ℕ → ReadAccesses T)
+    (reads : S → ℕ → ReadAccesses T) (said : S → List Said) (found : S → List Found)
     (width : ℕ) (opening : T) (fits : T → Type 0) (rises : T → T → Type 0) (sees : T → L → T → L → Type 0) (process : ℕ)
     (start : S × L) where
   pub column_own : (count : ℕ) (now : S × L) →
-      OneByOne (IsReadFrom is_seat who clock times writes reads width opening fits rises sees) process start count now →
+      OneByOne (IsReadFrom is_seat who clock times writes reads said found width opening fits rises sees) process start count now →
       is_seat start.0 → is_seat now.0 × (who now.0 ≡ who start.0)
-  column_own = stays_own (IsReadFrom is_seat who clock times writes reads width opening fits rises sees) (λ z. is_seat z.0) (λ z. who z.0)
-      (λ at old new call. call.own) process start
+  column_own = stays_own (IsReadFrom is_seat who clock times writes reads said found width opening fits rises sees) (λ z. is_seat z.0)
+      (λ z. who z.0) (λ at old new call. call.own) process start
 
 module _ {S T : Type 0} (is_seat : S → Type 0) (who clock : S → ℕ) (times : S → List ℕ) (writes : S → ℕ → WriteAccesses T)
-    (reads : S → ℕ → ReadAccesses T)
+    (reads : S → ℕ → ReadAccesses T) (said : S → List Said) (found : S → List Found)
     (width : ℕ) (item : T) (process : ℕ) (start : S) where
-  pub row_own : (count : ℕ) (now : S) → OneByOne (IsWriteTo is_seat who clock times writes reads width item) process start count now →
+  pub row_own : (count : ℕ) (now : S) →
+      OneByOne (IsWriteTo is_seat who clock times writes reads said found width item) process start count now →
       is_seat start → is_seat now × (who now ≡ who start)
-  row_own = stays_own (IsWriteTo is_seat who clock times writes reads width item) is_seat who (λ at old new call. call.own) process start
+  row_own = stays_own (IsWriteTo is_seat who clock times writes reads said found width item) is_seat who (λ at old new call. call.own)
+      process start
 
-  untouched : (e count : ℕ) (now : S) → OneByOne (IsWriteTo is_seat who clock times writes reads width item) process start count now →
+  untouched : (e count : ℕ) (now : S) →
+      OneByOne (IsWriteTo is_seat who clock times writes reads said found width item) process start count now →
       count ≤ e → writes now (other process e) ≡ writes start (other process e)
   untouched e _ _ no_call l = refl
   untouched e _ _ (one_more count now new r call) l =
       call.others.0 (other process e) (differs process e count (omega arith)) ∙ untouched e count now r (omega arith)
 
-  pub not_before : (at : ℕ) (now : S) → OneByOne (IsWriteTo is_seat who clock times writes reads width item) process start at now →
+  pub not_before : (at : ℕ) (now : S) →
+      OneByOne (IsWriteTo is_seat who clock times writes reads said found width item) process start at now →
       at < process → writes now at ≡ writes start at
   not_before at now r l = subst (λ z. writes now z ≡ writes start z) (below process at l) (untouched at at now r (omega arith))
 
-  pub not_after : (at : ℕ) (now : S) → OneByOne (IsWriteTo is_seat who clock times writes reads width item) process start (at - 1) now →
+  pub not_after : (at : ℕ) (now : S) →
+      OneByOne (IsWriteTo is_seat who clock times writes reads said found width item) process start (at - 1) now →
       process < at → writes now at ≡ writes start at
   not_after at now r l = subst (λ z. writes now z ≡ writes start z) (after process at l) (untouched (at - 1) (at - 1) now r (omega arith))

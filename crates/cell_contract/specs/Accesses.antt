@@ -4,6 +4,8 @@
 use Rattle.std.specs.Prelude.{◌≡◌, ◌≢◌, ℕ, ◌-◌, ◌<◌, List, [], ◌∷◌, ◌++◌, length, slice_get, Some}
 use Rattle.cell_contract.specs.declared.times.Times.{Times}
 use Rattle.cell_contract.specs.declared.times.Known.{Known}
+use Rattle.cell_contract.specs.declared.said.Said.{Said}
+use Rattle.cell_contract.specs.declared.said.Found.{Found}
 use Rattle.cell_contract.specs.Intervals.{no_times, none_known, AreHeeded, IsNextAnswer}
 use Rattle.cell_contract.specs.Running.{last_or}
 
@@ -41,6 +43,11 @@ pub record IsAccess (width clock clock' : ℕ) (times times' : List ℕ) (old ne
   pub begins : new.begins ≡ old.begins ++ first ∷ []
   pub ends : new.ends ≡ old.ends ++ clock' ∷ []
 
+-- *Found*: one step more, later than all that the process knew of, and with it the tag that another one had said
+abbrev pub FindsTag : ℕ → ℕ → ℕ → ℕ → List ℕ → List ℕ → List Found → List Found → Type 0
+FindsTag from tag clock clock' times times' found found' = (clock < clock') × (times' ≡ times ++ clock' ∷ [])
+    × (found' ≡ found ++ record { who = from; tag = tag; time = clock' } ∷ [])
+
 module _ {T : Type 0} where
   -- no calls
   abbrev pub no_writes : WriteAccesses T
@@ -50,9 +57,9 @@ module _ {T : Type 0} where
   no_reads = record { answers = []; numbers = []; known = none_known; told = []; heard = []; times = no_times }
 
   -- a process that has done nothing and knows of nothing
-  abbrev pub IsUnused : ℕ → List ℕ → (ℕ → WriteAccesses T) → (ℕ → ReadAccesses T) → Type 0
-  IsUnused clock times writes reads =
-      (clock ≡ 0) × (times ≡ []) × ((j : ℕ) → writes j ≡ no_writes) × ((j : ℕ) → reads j ≡ no_reads)
+  abbrev pub IsUnused : ℕ → List ℕ → (ℕ → WriteAccesses T) → (ℕ → ReadAccesses T) → List Said → List Found → Type 0
+  IsUnused clock times writes reads said found = (clock ≡ 0) × (times ≡ []) × ((j : ℕ) → writes j ≡ no_writes)
+      × ((j : ℕ) → reads j ≡ no_reads) × (said ≡ []) × (found ≡ [])
 
   -- one record more
   pub record IsWriteAccess (old new : WriteAccesses T) (item : T) : Type 0 where

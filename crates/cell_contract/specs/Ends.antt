@@ -1,7 +1,9 @@
 -- What is known of all processes together (this project's own).
-use Rattle.std.specs.Prelude.{◌≡◌, ◌≢◌, ℕ, ◌<◌, List, slice_get, Some}
+use Rattle.std.specs.Prelude.{◌≡◌, ◌≢◌, ℕ, ◌<◌, ◌≤◌, List, slice_get, Some}
 use Rattle.cell_contract.specs.Intervals.{AreAtomic, AreFirst, HaveEnded}
 use Rattle.cell_contract.specs.Accesses.{WriteAccesses, ReadAccesses}
+use Rattle.cell_contract.specs.declared.said.Said.{Said}
+use Rattle.cell_contract.specs.declared.said.Found.{Found}
 
 module _ {A : Type 0} where
   -- each with its place, and each two at different places
@@ -21,3 +23,12 @@ pub record IsAtomicCell {T : Type 0} (opening : T) (writes : WriteAccesses T) (r
   pub atomic : AreAtomic opening writes.items writes.times reads.answers reads.numbers reads.times
   pub ended : HaveEnded writes.times
   pub known : AreFirst reads.known writes.items writes.times
+
+-- *Said before*: among these tags is one that isn't below the tag found, and it was said before the step that found it
+abbrev pub WasSaid : List Said → Found → Type 0
+WasSaid said f = (y : ℕ) × (s : Said) × (slice_get said y ≡ Some s) × (f.tag ≤ s.tag) × (s.time < f.time)
+
+-- each tag that the process of one of these seats found was said before by the process of another one
+abbrev pub FindWhatWasSaid : {S : Type 0} → (S → List Said) → (S → List Found) → List S → Type 0
+FindWhatWasSaid said found seats = (i x : ℕ) (s : _) (f : Found) → slice_get seats i ≡ Some s →
+    slice_get (found s) x ≡ Some f → (t : _) × (slice_get seats f.who ≡ Some t) × WasSaid (said t) f

@@ -1,16 +1,18 @@
 //! What a family promises.
-ghost use Rattle.std.specs.Prelude.{◌≡◌, ◌≢◌, ℕ, ◌-◌, ◌<◌, ◌≤◌, List, [], ◌∷◌, ◌++◌, length};
+ghost use Rattle.std.specs.Prelude.{◌≡◌, ◌≢◌, true, false, ℕ, ◌-◌, ◌<◌, ◌≤◌, List, [], ◌∷◌, ◌++◌, length};
 ghost use Rattle.std.specs.Prelude.{vec_len, vec_capacity, IfOk};
 ghost use Rattle.history_core.specs.Schedules.{positions};
 ghost use Rattle.cell_contract.specs.Running.{last_or};
 ghost use Rattle.cell_contract.specs.Intervals.{known_as};
 ghost use Rattle.cell_contract.specs.declared.times.Known.{Known};
-ghost use Rattle.cell_contract.specs.Accesses.{WriteAccesses, ReadAccesses, IsUnused, IsAccess};
+ghost use Rattle.cell_contract.specs.Accesses.{WriteAccesses, ReadAccesses, IsUnused, IsAccess, FindsTag};
 ghost use Rattle.cell_contract.specs.Accesses.{IsWriteAccess, IsHeardRead, KeepsEach};
 ghost use Rattle.cell_contract.specs.Accesses.{KeepsOthers};
 ghost use Rattle.cell_contract.specs.Plans.{AreSoFar, Doings, doings, HasNoSteps, MayRead};
-ghost use Rattle.cell_contract.specs.Plans.{MayReadEach, MayWrite, MayWriteEach};
-ghost use Rattle.cell_contract.specs.Ends.{Each, EachTwo, IsSchedule, IsAtomicCell};
+ghost use Rattle.cell_contract.specs.Plans.{MayReadEach, MayWrite, MayWriteEach, MaySay, MayFind};
+ghost use Rattle.cell_contract.specs.Ends.{Each, EachTwo, IsSchedule, IsAtomicCell, FindWhatWasSaid};
+ghost use Rattle.cell_contract.specs.declared.said.Said.{Said};
+ghost use Rattle.cell_contract.specs.declared.said.Found.{Found};
 ghost use Rattle.cell_contract.specs.Rows.{OneByOne, IsReadFrom, IsWriteTo, SeesNew};
 
 use crate::{Kept, Lawful};
@@ -80,6 +82,11 @@ pub trait Family<T: Planned>: Sized + Drop {
 
     ghost reads: { Self.Seat → ℕ → ReadAccesses T };
 
+    // The tags that it said, and those that it found other processes to have said.
+    ghost said: { Self.Seat → List Said };
+
+    ghost found: { Self.Seat → List Found };
+
     // Whose receipt it is, its time, the record that it names to a process, and all that was
     // written to that one up to then.
     ghost sender: { Self.Receipt → ℕ };
@@ -103,7 +110,8 @@ pub trait Family<T: Planned>: Sized + Drop {
         requires plan { (i : ℕ) (done : Doings T) → i < n → HasNoSteps done → T.plan first width n plan_limit i done }
         ensures opens { IfOk result (λ r. (opening r.0 ≡ first) × (processes r.0 ≡ n) × (limit r.0 ≡ plan_limit)) }
         ensures seats { IfOk result (λ r. (vec_len r.1 ≡ n) × Each (λ i s. is_seat r.0 s × (who s ≡ i)) r.1.items) }
-        ensures unused { IfOk result (λ r. Each (λ i s. IsUnused (clock s) (times s) (writes s) (reads s)) r.1.items) };
+        ensures unused { IfOk result (λ r.
+            Each (λ i s. IsUnused (clock s) (times s) (writes s) (reads s) (said s) (found s)) r.1.items) };
 
     /// Shows the record to one other process.
     fn write_from(&self, seat: &mut Self::Seat, to: usize, item: &T)
@@ -112,16 +120,17 @@ pub trait Family<T: Planned>: Sized + Drop {
         requires lawful { T.fits item.now × T.rises (last_or (opening self.now) (writes seat.old to).items) item.now }
         requires plan { MayWrite
             (T.plan (opening self.now) width (processes self.now) (limit self.now) (who seat.old)) width item.now to
-            (doings (times seat.old) (writes seat.old) (reads seat.old)) }
+            (doings (times seat.old) (writes seat.old) (reads seat.old) (said seat.old) (found seat.old)) }
         ensures own { is_seat self.now seat.new × (who seat.new ≡ who seat.old) }
         ensures access { IsAccess width (clock seat.old) (clock seat.new) (times seat.old) (times seat.new)
             (writes seat.old to).times (writes seat.new to).times }
         ensures written { IsWriteAccess (writes seat.old to) (writes seat.new to) item.now }
         ensures others { KeepsOthers to (writes seat.old) (writes seat.new)
             × KeepsEach (reads seat.old) (reads seat.new) }
+        ensures tags { (said seat.new ≡ said seat.old) × (found seat.new ≡ found seat.old) }
         ensures so_far { AreSoFar (T.plan (opening self.now) width (processes self.now) (limit self.now))
             (opening self.now) (processes self.now) (who seat.new) (times seat.new) (writes seat.new)
-            (reads seat.new) };
+            (reads seat.new) (said seat.new) (found seat.new) };
 
     /// Shows the record to each other process, rising: the same as so many calls of
     /// `write_from`, in fewer instructions.
@@ -132,12 +141,13 @@ pub trait Family<T: Planned>: Sized + Drop {
             T.rises (last_or (opening self.now) (writes seat.old j).items) item.now }
         requires plan { MayWriteEach
             (T.plan (opening self.now) width (processes self.now) (limit self.now) (who seat.old)) width
-            (processes self.now) (who seat.old) item.now (doings (times seat.old) (writes seat.old) (reads seat.old)) }
-        ensures row { OneByOne (IsWriteTo (is_seat self.now) who clock times writes reads width item.now)
+            (processes self.now) (who seat.old) item.now
+            (doings (times seat.old) (writes seat.old) (reads seat.old) (said seat.old) (found seat.old)) }
+        ensures row { OneByOne (IsWriteTo (is_seat self.now) who clock times writes reads said found width item.now)
             (who seat.old) seat.old (processes self.now - 1) seat.new }
         ensures so_far { AreSoFar (T.plan (opening self.now) width (processes self.now) (limit self.now))
             (opening self.now) (processes self.now) (who seat.new) (times seat.new) (writes seat.new)
-            (reads seat.new) };
+            (reads seat.new) (said seat.new) (found seat.new) };
 
     /// Shows one whole record of another process where it lies, so that nothing is copied. It is a record that was
     /// written, and by its law it may stand after each that this process saw or was told of that one.
@@ -146,12 +156,12 @@ pub trait Family<T: Planned>: Sized + Drop {
         requires other { (from < processes self.now) × (from ≢ who seat.old) }
         requires plan { MayRead
             (T.plan (opening self.now) width (processes self.now) (limit self.now) (who seat.old)) width from
-            (doings (times seat.old) (writes seat.old) (reads seat.old)) }
-        ensures read { IsReadFrom (is_seat self.now) who clock times writes reads width
+            (doings (times seat.old) (writes seat.old) (reads seat.old) (said seat.old) (found seat.old)) }
+        ensures read { IsReadFrom (is_seat self.now) who clock times writes reads said found width
             (opening self.now) T.fits T.rises (λ _. L.sees) from (seat.old, seen.old) (seat.new, seen.new) }
         ensures so_far { AreSoFar (T.plan (opening self.now) width (processes self.now) (limit self.now))
             (opening self.now) (processes self.now) (who seat.new) (times seat.new) (writes seat.new)
-            (reads seat.new) };
+            (reads seat.new) (said seat.new) (found seat.new) };
 
     /// Shows one record of each other process, rising: the same as so many calls of `read_from`, in fewer instructions,
     /// but that a record which is the last answer again may be left out.
@@ -159,14 +169,47 @@ pub trait Family<T: Planned>: Sized + Drop {
         requires own { is_seat self.now seat.old }
         requires plan { MayReadEach
             (T.plan (opening self.now) width (processes self.now) (limit self.now) (who seat.old)) width
-            (processes self.now) (who seat.old) (doings (times seat.old) (writes seat.old) (reads seat.old)) }
+            (processes self.now) (who seat.old)
+            (doings (times seat.old) (writes seat.old) (reads seat.old) (said seat.old) (found seat.old)) }
         ensures column { OneByOne
-            (IsReadFrom (is_seat self.now) who clock times writes reads width (opening self.now) T.fits T.rises
-            (SeesNew L.sees))
+            (IsReadFrom (is_seat self.now) who clock times writes reads said found width (opening self.now) T.fits
+            T.rises (SeesNew L.sees))
             (who seat.old) (seat.old, seen.old) (processes self.now - 1) (seat.new, seen.new) }
         ensures so_far { AreSoFar (T.plan (opening self.now) width (processes self.now) (limit self.now))
             (opening self.now) (processes self.now) (who seat.new) (times seat.new) (writes seat.new)
-            (reads seat.new) };
+            (reads seat.new) (said seat.new) (found seat.new) };
+
+    /// Says this tag to whoever looks. Each of them looks at the last tag that the process said. It is no step of the
+    /// schedule.
+    fn say(&self, seat: &mut Self::Seat, tag: u64)
+        requires own { is_seat self.now seat.old }
+        requires plan { MaySay
+            (T.plan (opening self.now) width (processes self.now) (limit self.now) (who seat.old)) tag (clock seat.old)
+            (doings (times seat.old) (writes seat.old) (reads seat.old) (said seat.old) (found seat.old)) }
+        ensures own { is_seat self.now seat.new × (who seat.new ≡ who seat.old) }
+        ensures said { said seat.new ≡ said seat.old ++ record { tag = tag; time = clock seat.old } ∷ [] }
+        ensures same { (clock seat.new ≡ clock seat.old) × (times seat.new ≡ times seat.old)
+            × (found seat.new ≡ found seat.old) }
+        ensures calls { KeepsEach (writes seat.old) (writes seat.new) × KeepsEach (reads seat.old) (reads seat.new) };
+
+    /// Looks whether a process has said this tag or a greater one. Where the last that it said is so, this is a step of
+    /// the schedule, and the process knows that it was said before. Else nothing changes.
+    fn look(&self, seat: &mut Self::Seat, from: usize, tag: u64) -> bool
+        requires own { is_seat self.now seat.old }
+        requires other { (from < processes self.now) × (from ≢ who seat.old) }
+        requires plan { MayFind
+            (T.plan (opening self.now) width (processes self.now) (limit self.now) (who seat.old)) from tag
+            (doings (times seat.old) (writes seat.old) (reads seat.old) (said seat.old) (found seat.old)) }
+        ensures own { is_seat self.now seat.new × (who seat.new ≡ who seat.old) }
+        ensures finds { result ≡ true → FindsTag from tag (clock seat.old) (clock seat.new) (times seat.old)
+            (times seat.new) (found seat.old) (found seat.new) }
+        ensures unfound { result ≡ false → (clock seat.new ≡ clock seat.old) × (times seat.new ≡ times seat.old)
+            × (found seat.new ≡ found seat.old) }
+        ensures said { said seat.new ≡ said seat.old }
+        ensures calls { KeepsEach (writes seat.old) (writes seat.new) × KeepsEach (reads seat.old) (reads seat.new) }
+        ensures so_far { AreSoFar (T.plan (opening self.now) width (processes self.now) (limit self.now))
+            (opening self.now) (processes self.now) (who seat.new) (times seat.new) (writes seat.new)
+            (reads seat.new) (said seat.new) (found seat.new) };
 
     /// Gives a receipt for all that the process has written, which carries these writes.
     fn tell(&self, seat: &mut Self::Seat) -> Self::Receipt
@@ -178,6 +221,7 @@ pub trait Family<T: Planned>: Sized + Drop {
         ensures tells { (j : ℕ) → j < processes self.now → j ≢ who seat.old →
             writes_of result j ≡ known_as (writes seat.old j).items (writes seat.old j).times }
         ensures same { (clock seat.new ≡ clock seat.old) × (times seat.new ≡ times seat.old) }
+        ensures tags { (said seat.new ≡ said seat.old) × (found seat.new ≡ found seat.old) }
         ensures calls { KeepsEach (writes seat.old) (writes seat.new) × KeepsEach (reads seat.old) (reads seat.new) };
 
     /// Gives a second receipt that tells the same, for one learner more.
@@ -199,7 +243,8 @@ pub trait Family<T: Planned>: Sized + Drop {
             IsHeardRead (reads seat.old (sender told)) (reads seat.new (sender told))
             (named told (who seat.old)) (writes_of told (who seat.old)) }
         ensures others { KeepsEach (writes seat.old) (writes seat.new)
-            × KeepsOthers (sender told) (reads seat.old) (reads seat.new) };
+            × KeepsOthers (sender told) (reads seat.old) (reads seat.new) }
+        ensures tags { (said seat.new ≡ said seat.old) × (found seat.new ≡ found seat.old) };
 
     /// Shows what was done so far with all seats: it is one schedule, and the calls of each register are atomic by
     /// their intervals in its time. Nothing changes.
@@ -210,7 +255,8 @@ pub trait Family<T: Planned>: Sized + Drop {
         ensures scheduled { (steps : List ℕ) × IsSchedule (processes self.now) steps
             × Each (λ i s. times s ≡ positions 1 i steps) seats.old.items }
         ensures atomic { EachTwo (λ i j s t. IsAtomicCell (opening self.now) (writes s j) (reads t i))
-            seats.old.items };
+            seats.old.items }
+        ensures finds { FindWhatWasSaid said found seats.old.items };
 
     /// Ends the family: all that was done is one schedule, and the calls of each register are atomic by
     /// their intervals in its time.
@@ -218,7 +264,8 @@ pub trait Family<T: Planned>: Sized + Drop {
         requires { (vec_len seats ≡ processes self) × Each (λ i s. is_seat self s × (who s ≡ i)) seats.items }
         ensures scheduled { (steps : List ℕ) × IsSchedule (processes self) steps
             × Each (λ i s. times s ≡ positions 1 i steps) seats.items }
-        ensures atomic { EachTwo (λ i j s t. IsAtomicCell (opening self) (writes s j) (reads t i)) seats.items };
+        ensures atomic { EachTwo (λ i j s t. IsAtomicCell (opening self) (writes s j) (reads t i)) seats.items }
+        ensures finds { FindWhatWasSaid said found seats.items };
 }
 
 /// A family in which each seat shows what all processes have done so far.
@@ -231,7 +278,7 @@ pub trait SoFar<T: Planned>: Family<T> {
         ensures so_far { AreSoFar
             (T.plan (Self.opening self.now) Self.width (Self.processes self.now) (Self.limit self.now))
             (Self.opening self.now) (Self.processes self.now) (Self.who seat.old) (Self.times seat.old)
-            (Self.writes seat.old) (Self.reads seat.old) };
+            (Self.writes seat.old) (Self.reads seat.old) (Self.said seat.old) (Self.found seat.old) };
 }
 
 /// A family that threads can share.

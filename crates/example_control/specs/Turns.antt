@@ -56,6 +56,7 @@ module _ {F S T : Type 0} (words : FamilyWords F (Posted Control) S T) where
     seen = stamped seen;
     chosen = stamped new.own;
     tells = c.tells;
+    finds = c.finds;
   }
 
   -- a read, after which the pass has the record that was read

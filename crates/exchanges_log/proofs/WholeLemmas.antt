@@ -9,7 +9,7 @@ use Rattle.read_document.specs.declared.refusal.DocError.{DocError}
 use Rattle.read_document.specs.declared.refusal.DocError.TheVariants.{Law, Missing, NoMemory}
 use Rattle.read_document.specs.declared.key.Key.TheVariants as key
 use Rattle.read_document.specs.Refusals.{◌>>=◌}
-use Rattle.read_document.specs.Splits.{IsSplit, lines_of}
+use Rattle.text_lines.specs.Splits.{IsSplit, lines_of}
 use Rattle.program_runs.specs.declared.fault.Fault.{Fault}
 use Rattle.lines_log.specs.Faults.{is_end, refused_at}
 use Rattle.read_line.specs.Lines.{Head, head_of}

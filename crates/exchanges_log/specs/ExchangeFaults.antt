@@ -5,12 +5,12 @@ use Rattle.object_core.specs.declared.operation.Operation.{Operation}
 use Rattle.object_registers.specs.declared.exchanging.Exchange.{Exchange}
 use Rattle.read_document.specs.declared.refusal.DocError.{DocError}
 use Rattle.read_document.specs.declared.refusal.DocError.TheVariants.{NotJson}
-use Rattle.read_document.specs.Splits.{lines_of}
+use Rattle.text_lines.specs.Splits.{lines_of}
 use Rattle.program_runs.specs.declared.fault.Fault.{Fault}
 use Rattle.program_runs.specs.declared.fault.Fault.TheVariants.{NoMemory}
 use Rattle.read_line.specs.Lines.{Head, head_of}
-use Rattle.read_line.specs.Numberings.{AreDistinct}
-use Rattle.read_line.specs.Places.{line_at}
+use Rattle.kept_lines.specs.Numberings.{AreDistinct}
+use Rattle.text_lines.specs.Places.{line_at}
 use Rattle.lines_log.specs.Faults.{is_last, refused_at}
 use Rattle.lines_log.specs.Logs.{LineRule, text_of}
 use Rattle.exchanges_log.specs.ExchangeLogs.{AreExchangeLines, judged_line, rule_in}

@@ -11,8 +11,8 @@ use Rattle.read_document.specs.declared.refusal.DocError.{DocError}
 use Rattle.read_document.specs.declared.refusal.DocError.TheVariants.{Law, Missing, Shape}
 use Rattle.read_document.specs.declared.key.Key.TheVariants as key
 use Rattle.read_document.specs.Refusals.{◌>>=◌}
-use Rattle.read_document.specs.Splits.{lines_of}
-use Rattle.read_line.specs.Numberings.{AreDistinct}
+use Rattle.text_lines.specs.Splits.{lines_of}
+use Rattle.kept_lines.specs.Numberings.{AreDistinct}
 use Rattle.read_line.specs.Lines.{Head, head_of}
 use Rattle.lines_log.specs.Logs.{LineRule, same_key, text_of}
 use Rattle.read_exchange.specs.Exchanges.{done, entry_of, ExchangeEntry, is_refusal, operation, SaidExchange}

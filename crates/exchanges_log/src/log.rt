@@ -5,17 +5,18 @@ ghost use Rattle.exchanges_log.specs.ExchangeFaults.{IsExchangesBodyFault, IsExc
 ghost use Rattle.exchanges_log.specs.ExchangeLogs.{first_key, IsExchangesLog};
 ghost use Rattle.exchanges_log.specs.inner.ExchangeReadings.{AreExchangesFinished, AreExchangesRead, IsBodyRead};
 ghost use Rattle.exchanges_log.specs.inner.ExchangeReadings.{rule_of};
-ghost use Rattle.read_document.specs.Splits.{lines_of};
+ghost use Rattle.text_lines.specs.Splits.{lines_of};
 
 use crate::counts::{uncertain_in, unfinished_in};
 use crate::exchanges_log::ExchangesLog;
 use crate::reader::Reader;
 use lines_log::{is_end, refused_at, text_of};
 use program_runs::Fault;
-use read_document::{DocError, split_line};
+use read_document::DocError;
 use read_exchange::{ExchangeLine, ExchangeOp, read_exchange};
 use read_line::read_header;
 use std::alloc::{AllocError, Global};
+use text_lines::split_line;
 
 /// The line of the header.
 const HEADER: usize = 1;

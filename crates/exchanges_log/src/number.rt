@@ -1,14 +1,14 @@
 //! Numbers in place of records.
 ghost use Rattle.std.specs.Prelude.{[], ◌∷◌, ℕ, List, IfOk, string_bytes};
-ghost use Rattle.read_line.specs.Numberings.{IsNumbering};
+ghost use Rattle.kept_lines.specs.Numberings.{IsNumbering};
 ghost use Rattle.read_exchange.specs.Exchanges.{exchange_seen, what_seen};
 ghost use Rattle.exchanges_log.specs.ExchangeNumbers.{GaveNumbers, IsExchangeNow, IsOperationNow};
 
+use kept_lines::Numbering;
 use lines_log::fitted;
 use object_core::Operation;
 use object_registers::Exchange;
 use read_exchange::{ExchangeOp, TextExchange};
-use read_line::Numbering;
 use std::alloc::AllocError;
 
 /// An operation with the numbers of its records.

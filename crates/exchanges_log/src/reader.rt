@@ -7,13 +7,15 @@ ghost use Rattle.read_exchange.specs.Exchanges.{exchange_seen};
 
 use crate::line::read_op;
 use crate::number::number_op;
+use kept_lines::Numbering;
 use lines_log::refused_at;
 use object_core::Operation;
 use object_registers::Exchange;
 use program_runs::Fault;
 use read_exchange::ExchangeOp;
-use read_line::{LogHeader, Numbering, line_at};
+use read_line::LogHeader;
 use std::alloc::{AllocError, Global};
+use text_lines::line_at;
 
 /// What was read of a log.
 #[derive(Drop)]

@@ -21,7 +21,7 @@ use Rattle.family_table.specs.Places.{place}
 use Rattle.family_four_slot.specs.Access.{HasLooked}
 use Rattle.family_four_slot.specs.Places.{slot_at}
 use Rattle.family_four_slot.specs.Steps.{has_asked, has_said}
-use Rattle.family_table.specs.Seated.{known_by, number_of, clock_of, times_of}
+use Rattle.family_table.specs.Seated.{known_by, number_of, clock_of, times_of, said_of, found_of}
 use Rattle.family_four_slot.specs.Seated.{opening_of, processes_of, writes_of, reads_of, IsSeat}
 use Rattle.family_four_slot.specs.Words.{none_shown, writes_to, reads_from, IsAtRest}
 use Rattle.family_table.specs.Views.{process_of}
@@ -37,12 +37,14 @@ module _ {T : Type 0} where
     pub access : IsAccess 3 (clock_of s) (clock_of s') (times_of s) (times_of s') (writes_of s j).times (writes_of s' j).times
     pub written : IsWriteAccess (writes_of s j) (writes_of s' j) x
     pub others : KeepsOthers j (writes_of s) (writes_of s') × KeepsEach (reads_of s) (reads_of s')
+    pub tags : (said_of s' ≡ said_of s) × (found_of s' ≡ found_of s)
 
   pub record HasRead (f : FourSlotFamily T) (s s' : FourSlotSeat T) (j : ℕ) (x : T) : Type 0 where
     pub own : IsSeat f s' × (s'.who ≡ s.who)
     pub access : IsAccess 3 (clock_of s) (clock_of s') (times_of s) (times_of s') (reads_of s j).times (reads_of s' j).times
     pub answer : IsReadAccess (opening_of f) (reads_of s j) (reads_of s' j) x
     pub others : KeepsOthers j (reads_of s) (reads_of s') × KeepsEach (writes_of s) (writes_of s')
+    pub tags : (said_of s' ≡ said_of s) × (found_of s' ≡ found_of s)
 
   module _ (f : FourSlotFamily T) (s : FourSlotSeat T) (own : IsSeat f s) (j : ℕ) (other : (j < processes_of f) × (j ≢ number_of s))
       (cell : ℕ) where
@@ -101,6 +103,7 @@ module _ {T : Type 0} where
             access = h.0;
             written = h.1;
             others = (h.2, h.3);
+            tags = (ap (λ z. z.said) (sym is), ap (λ z. z.found) (sym is));
           }
 
     module _ (at : cell ≡ place s.processes j s.who) where
@@ -167,4 +170,5 @@ module _ {T : Type 0} where
             access = seen.0;
             answer = subst (λ z. IsReadAccess z (reads_of s j) (reads_of s' j) h.answer) own.opening seen.1;
             others = (seen.2, seen.3);
+            tags = (ap (λ z. z.said) (sym is), ap (λ z. z.found) (sym is));
           }

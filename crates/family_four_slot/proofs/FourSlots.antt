@@ -20,10 +20,10 @@ use Rattle.family_table.specs.Layouts.{shift, Inside}
 use Rattle.family_four_slot.specs.Places.{four_slots, word_at, slot_at}
 use Rattle.family_table.specs.Family.{of_cell, knows, CellAllows, StepTells}
 use Rattle.family_four_slot.specs.FourSlots.{When, CellRule, FourSlotFamily, Shaped}
-use Rattle.family_four_slot.specs.Plans.{MayAsk, MayBegin, MayFinish, MaySay, MayStore, MayTake}
+use Rattle.family_four_slot.specs.Plans.{MayAsk, MayBegin, MayFinish, MaySayPair, MayStore, MayTake}
 use Rattle.cell_four_slot.proofs.Keeps.{begins_at, stores_at, finishes_at, asks_at, says_at, takes_at}
 use Rattle.cell_four_slot.proofs.Slots.{bit_low, slot_low}
-use Rattle.family_four_slot.proofs.Places.{is_layout}
+use Rattle.family_four_slot.specs.Laid.{is_layout}
 use Rattle.family_four_slot.proofs.Shapes.{both_read, both_write, shape_after, SameKind}
 use Rattle.family_table.proofs.Steps.{family_allows}
 
@@ -219,7 +219,7 @@ module _ {T : Type 0} (fits : T → Type 0) (rises : T → T → Type 0) (o : T)
     pub family_says : (count : ℕ) → count ≤ 1 → (slots id k new : ℕ) (v : Process V) (before behind : List (ℕ × T)) (g : ReaderNotes T) →
         k < (four_slots n).cells → k < length v.parts → of_cell Spent k v.parts ≡ Reader g →
         v.held ≡ held_slots (before ++ (shift (slot_at k) (slot_of_choice g.chosen g.at_hand.value) ++ behind)) → g.stage ≡ reader.R1 →
-        new ≡ bit_number g.slot.pair → MaySay Plan k v g
+        new ≡ bit_number g.slot.pair → MaySayPair Plan k v g
         → Allows Family slots id (Has (v ∷ []), before ++ (shift (slot_at k) (slot_of_choice g.chosen g.at_hand.value) ++ behind))
         (word_at k 1)
         (λ _. new) (Says k v before behind

@@ -13,6 +13,7 @@ pub mod Planning
 pub mod Rests
 pub mod Rows
 pub mod Shapes
+pub mod Saying
 pub mod Showing
 pub mod SoFar
 pub mod Starts

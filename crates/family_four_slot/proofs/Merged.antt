@@ -37,7 +37,7 @@ use Rattle.family_four_slot.specs.Plans.{MayGet, MayPublish}
 use Rattle.family_four_slot.specs.Steps.{After, stores_on, takes_on, has_said, has_stored}
 use Rattle.family_table.proofs.Acts.{homes_long}
 use Rattle.family_four_slot.proofs.Again.{IsOne, one_after, one_there}
-use Rattle.family_four_slot.proofs.Places.{is_layout}
+use Rattle.family_four_slot.specs.Laid.{is_layout}
 use Rattle.family_table.proofs.Slices.{get_set_here, get_set_else, set_long, set_twice, within}
 use Rattle.family_four_slot.proofs.Told.{has_one, writes_one, reads_one, says_ok, stores_ok, finishes_ok, takes_ok}
 

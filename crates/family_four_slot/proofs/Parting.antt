@@ -13,7 +13,7 @@ use Rattle.cell_four_slot.specs.declared.notes.ReaderNotes.{ReaderNotes}
 use Rattle.cell_contract.specs.declared.sight.Sight.TheVariants.{Spent, Writer, Reader}
 use Rattle.cell_four_slot.specs.Steps.{FourSlotSight, first_writer, first_reader, receipt_for}
 use Rattle.cell_contract.specs.Accesses.{WriteAccesses, ReadAccesses, IsUnused, no_writes, no_reads}
-use Rattle.cell_contract.specs.Ends.{Each, EachTwo, IsSchedule, IsAtomicCell}
+use Rattle.cell_contract.specs.Ends.{Each, EachTwo, FindWhatWasSaid, IsSchedule, IsAtomicCell}
 use Rattle.cell_contract.specs.Plans.{HasNoSteps}
 use Rattle.family_four_slot.specs.declared.family.FourSlotFamily.{FourSlotFamily}
 use Rattle.family_four_slot.specs.Seated.{FourSlotSeat}
@@ -27,15 +27,17 @@ use Rattle.family_table.specs.Places.{upto}
 use Rattle.family_four_slot.specs.FourSlots.{first_part, first_process, Idle, IsInShape}
 use Rattle.family_table.specs.Places.{place, writer_of, reader_of}
 use Rattle.family_table.specs.Seats.{all_but_first, first_of}
-use Rattle.family_table.specs.Seated.{known_by, number_of, clock_of, times_of}
+use Rattle.family_table.specs.Seated.{known_by, number_of, clock_of, times_of, said_of, found_of}
 use Rattle.family_four_slot.specs.Seated.{opening_of, processes_of, writes_of, reads_of, IsSeat, IsFirst}
 use Rattle.family_four_slot.specs.Plans.{done_by}
-use Rattle.family_four_slot.specs.Tables.{IsEnded}
+use Rattle.family_four_slot.specs.Places.{four_slots}
+use Rattle.family_four_slot.specs.Tables.{Done, IsEnded}
 use Rattle.family_four_slot.specs.Words.{none_shown, shown_to, writes_to, reads_from, IsAtRest}
 use Rattle.family_table.specs.Views.{process_of}
 use Rattle.family_four_slot.proofs.Calls.{sees_writes, sees_reads}
 use Rattle.family_table.proofs.Seats.{same_number}
 use Rattle.family_table.proofs.Gathering.{each_more}
+use Rattle.family_table.proofs.Looked.{all_found}
 use Rattle.family_table.proofs.Places.{place_in, writer_there, reader_there}
 use Rattle.family_table.proofs.Seats.{differ}
 use Rattle.family_table.proofs.Firsts.{upto_long, upto_get, replicate_long}
@@ -198,6 +200,7 @@ module _ {T : Type 0} where
     pub first_done : HasNoSteps (done_by o n v)
     first_done = record {
       times = refl;
+      tags = (refl, refl);
       writes = λ j. ap (λ (z : WriteAccesses T). record { items = z.items; begins = z.times.begins; ends = z.times.ends }) (first_writes j);
       reads = λ j. ap (λ (z : ReadAccesses T). record { items = z.answers; begins = z.times.begins; ends = z.times.ends }) (first_reads j);
     }
@@ -205,7 +208,7 @@ module _ {T : Type 0} where
   -- such a seat is one of the family's, and unused
   pub first_seat : (f : FourSlotFamily T) (n : ℕ) (o : T) (i : ℕ) (s : FourSlotSeat T) → opening_of f ≡ o → processes_of f ≡ n → i < n →
       n ≤ 16 → IsFirst f.table.rows.inner.shared.table_id n o i s →
-      (IsSeat f s × (number_of s ≡ i)) × IsUnused (clock_of s) (times_of s) (writes_of s) (reads_of s)
+      (IsSeat f s × (number_of s ≡ i)) × IsUnused (clock_of s) (times_of s) (writes_of s) (reads_of s) (said_of s) (found_of s)
   first_seat f n o i s opens many li most h =
       let is : known_by s ≡ first_process o n i = ap (λ z. process_of z.0) h.me in
       let rest = first_rest o n i s.stored li most h.shown h.reads h.long in (
@@ -226,6 +229,8 @@ module _ {T : Type 0} where
           ap (λ z. z.times) is,
           λ j. (λ k. writes_to (h.opening k) (h.processes k) (is k) j) ∙ first_writes o n i j,
           λ j. (λ k. reads_from (h.opening k) (h.processes k) (is k) j) ∙ first_reads o n i j,
+          ap (λ z. z.said) is,
+          ap (λ z. z.found) is,
         ),
       )
 
@@ -241,6 +246,10 @@ module _ {T : Type 0} where
       λ i s e. let t = there i s e in let own = each i s e in
           ended.made t.0 (known_by s) t.1 ∙ ap (λ z. positions 1 z ended.steps) (own.0.who ∙ own.1),
     )
+
+    pub all_say : length seats ≡ processes_of f → FindWhatWasSaid said_of found_of seats
+    all_say many = all_found Spent (four_slots (processes_of f)) (Done (opening_of f)) (processes_of f) ps ended seats many
+        (λ i s e. (each i s e).0.who ∙ (each i s e).1) there
 
     pub all_atomic : EachTwo (λ i j s t. IsAtomicCell (opening_of f) (writes_of s j) (reads_of t i)) seats
     all_atomic i j s t at_s at_t ne =

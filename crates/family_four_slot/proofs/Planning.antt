@@ -2,7 +2,7 @@
 use Rattle.std.proofs.Common.{◌≡◌, ◌≢◌, ℕ, ◌<◌, Bool, List, [], ◌∷◌, ◌++◌, append-nil, length, slice_get, refl, sym, ap, ◌∙◌, subst}
 use Rattle.std.proofs.Common.{arith}
 use Rattle.cell_contract.specs.Accesses.{ReadAccesses, WriteAccesses}
-use Rattle.cell_contract.specs.Plans.{Doings, doings, if_there, MayRead, MayWrite, ReadsSoFar, WritesSoFar}
+use Rattle.cell_contract.specs.Plans.{Doings, if_there, MayRead, MayWrite, ReadsSoFar, WritesSoFar}
 use Rattle.cell_contract.specs.Sights.{writer_or, reader_or}
 use Rattle.cell_contract.specs.declared.sight.Sight.TheVariants.{Spent, Writer, Reader}
 use Rattle.cell_four_slot.specs.declared.notes.WriterNotes.{WriterNotes}
@@ -12,12 +12,12 @@ use Rattle.cell_four_slot.specs.Steps.{begun_with, stored_by, finished_with, ask
 use Rattle.family_table.specs.declared.notes.Process.{Process}
 use Rattle.family_table.specs.Family.{knows, of_cell}
 use Rattle.family_table.specs.Places.{place}
-use Rattle.family_table.specs.Seated.{known_by, number_of, times_of}
+use Rattle.family_table.specs.Seated.{known_by, number_of}
 use Rattle.family_table.proofs.Frames.{IsChanged, changed, changed_again}
 use Rattle.family_table.proofs.Places.{column_apart, row_apart}
 use Rattle.family_four_slot.specs.declared.family.FourSlotFamily.{FourSlotFamily}
 use Rattle.family_four_slot.specs.Plans.{done_by, plan_of, DoesAsPlanned, MayBegin, MayLook, MayPublish, MayTake}
-use Rattle.family_four_slot.specs.Seated.{FourSlotSeat, opening_of, processes_of, limit_of, writes_of, reads_of, IsSeat}
+use Rattle.family_four_slot.specs.Seated.{FourSlotSeat, opening_of, processes_of, limit_of, IsSeat, doings_of}
 use Rattle.family_four_slot.proofs.Calls.{sees_reads, sees_writes}
 use Rattle.family_four_slot.proofs.Frames.{other_reads, other_writes, same_reads, same_writes}
 use Rattle.family_four_slot.proofs.Going.{apart, column_at, column_long, column_place, row_at, row_long, row_place}
@@ -32,7 +32,7 @@ three_more [] a b c = refl
 three_more (x ∷ xs) a b c = ap (λ zs. x ∷ zs) (three_more xs a b c)
 
 module _ {T : Type 0} (o : T) (n j : ℕ) (v u : Process (FourSlotSight T)) (made : ℕ) (steps : List ℕ) (long : length steps ≡ made)
-    (times : u.times ≡ v.times ++ steps) (ne : j ≢ v.who) where
+    (times : u.times ≡ v.times ++ steps) (tags : (u.said ≡ v.said) × (u.found ≡ v.found)) (ne : j ≢ v.who) where
   -- a write to process j
   write_so_far : (p q : WriterNotes T) (x : T) → IsChanged Spent v u (place n v.who j) (Writer q) →
       of_cell Spent (place n v.who j) v.parts ≡ Writer p → q.written ≡ p.written ++ x ∷ [] →
@@ -55,6 +55,7 @@ module _ {T : Type 0} (o : T) (n j : ℕ) (v u : Process (FourSlotSight T)) (mad
           λ i. ap (λ (z : ReadAccesses T). record { items = z.answers; begins = z.times.begins; ends = z.times.ends })
               (same_reads o n v u (place n v.who j) (Writer q) c (ap (reader_or (first_reader o)) (sym is)) i),
         );
+        tags = tags;
       }
 
   -- a read of process j
@@ -80,6 +81,7 @@ module _ {T : Type 0} (o : T) (n j : ℕ) (v u : Process (FourSlotSight T)) (mad
           λ i. ap (λ (z : WriteAccesses T). record { items = z.items; begins = z.times.begins; ends = z.times.ends })
               (same_writes o n v u (place n j v.who) (Reader h) c (ap (writer_or (first_writer o)) (sym is)) i),
         );
+        tags = tags;
       }
 
 module _ {T : Type 0} (o : T) (n : ℕ) (plan : ℕ → Doings T → Type 0) (j : ℕ) (v : Process (FourSlotSight T)) (ne : j ≢ v.who) where
@@ -99,7 +101,7 @@ module _ {T : Type 0} (o : T) (n : ℕ) (plan : ℕ → Doings T → Type 0) (j 
         let q : WriterNotes T = begun_with p b x t in
         let u : Process V = knows Spent v k (Writer q) t h in
         may 1 (done_by o n u) (omega arith) (omega arith)
-        (write_so_far o n j v u 1 (t ∷ []) refl refl ne p q x (changed Spent v k t (Writer q) h has) is refl refl
+        (write_so_far o n j v u 1 (t ∷ []) refl refl (refl, refl) ne p q x (changed Spent v k t (Writer q) h has) is refl refl
         (sym (append-nil p.times.ends)))
 
     pub may_publish : (b : Bool) (t : ℕ) (h : List ℕ) →
@@ -112,7 +114,7 @@ module _ {T : Type 0} (o : T) (n : ℕ) (plan : ℕ → Doings T → Type 0) (j 
               let q2 : WriterNotes T = stored_by q1 t2 in
               let u2 : Process V = knows Spent u1 k (Writer q2) t2 h2 in
               may 2 (done_by o n u2) (omega arith) (omega arith)
-              (write_so_far o n j v u2 2 (t ∷ t2 ∷ []) refl (two_more v.times t t2) ne p q2 x
+              (write_so_far o n j v u2 2 (t ∷ t2 ∷ []) refl (two_more v.times t t2) (refl, refl) ne p q2 x
               (changed_again Spent v u1 k t2 (Writer q1) (Writer q2) h2 has c1) is refl refl (sym (append-nil p.times.ends)))),
           (λ t2 h2 l2 count t3 h3 l3.
               let q2 : WriterNotes T = stored_by q1 t2 in
@@ -121,7 +123,7 @@ module _ {T : Type 0} (o : T) (n : ℕ) (plan : ℕ → Doings T → Type 0) (j 
               let q3 : WriterNotes T = finished_with q2 count t3 in
               let u3 : Process V = knows Spent u2 k (Writer q3) t3 h3 in
               may 3 (done_by o n u3) (omega arith) (omega arith)
-              (write_so_far o n j v u3 3 (t ∷ t2 ∷ t3 ∷ []) refl (three_more v.times t t2 t3) ne p q3 x
+              (write_so_far o n j v u3 3 (t ∷ t2 ∷ t3 ∷ []) refl (three_more v.times t t2 t3) (refl, refl) ne p q3 x
               (changed_again Spent v u2 k t3 (Writer q2) (Writer q3) h3 has c2) is refl refl refl)),
         )
 
@@ -136,7 +138,7 @@ module _ {T : Type 0} (o : T) (n : ℕ) (plan : ℕ → Doings T → Type 0) (j 
           let g1 : ReaderNotes T = asked_by g b t in
           let u1 : Process V = knows Spent v c (Reader g1) t h in
           may 1 (done_by o n u1) (omega arith) (omega arith)
-          (read_so_far o n j v u1 1 (t ∷ []) refl refl ne g g1 [] lj li (changed Spent v c t (Reader g1) h has) is
+          (read_so_far o n j v u1 1 (t ∷ []) refl refl (refl, refl) ne g g1 [] lj li (changed Spent v c t (Reader g1) h has) is
           (sym (append-nil g.answers)) refl (sym (append-nil g.times.ends)))),
       (λ b t h l. (
         (λ count t2 h2 l2.
@@ -146,7 +148,7 @@ module _ {T : Type 0} (o : T) (n : ℕ) (plan : ℕ → Doings T → Type 0) (j 
             let g2 : ReaderNotes T = said_with g1 count t2 in
             let u2 : Process V = knows Spent u1 c (Reader g2) t2 h2 in
             may 2 (done_by o n u2) (omega arith) (omega arith)
-            (read_so_far o n j v u2 2 (t ∷ t2 ∷ []) refl (two_more v.times t t2) ne g g2 [] lj li
+            (read_so_far o n j v u2 2 (t ∷ t2 ∷ []) refl (two_more v.times t t2) (refl, refl) ne g g2 [] lj li
             (changed_again Spent v u1 c t2 (Reader g1) (Reader g2) h2 has c1) is
             (sym (append-nil g.answers)) refl (sym (append-nil g.times.ends)))),
         (λ count t2 h2 l2. may_take b t h count t2 h2),
@@ -165,7 +167,7 @@ module _ {T : Type 0} (o : T) (n : ℕ) (plan : ℕ → Doings T → Type 0) (j 
           let g3 : ReaderNotes T = got_by g2 bit x t3 number writes in
           let u3 : Process V = knows Spent u2 c (Reader g3) t3 h3 in
           may 3 (done_by o n u3) (omega arith) (omega arith)
-          (read_so_far o n j v u3 3 (t ∷ t2 ∷ t3 ∷ []) refl (three_more v.times t t2 t3) ne g g3 (x ∷ []) lj li
+          (read_so_far o n j v u3 3 (t ∷ t2 ∷ t3 ∷ []) refl (three_more v.times t t2 t3) (refl, refl) ne g g3 (x ∷ []) lj li
           (changed_again Spent v u2 c t3 (Reader g2) (Reader g3) h3 has c2) is refl refl refl)
 
 -- the same of a seat, by the words of its family
@@ -179,7 +181,7 @@ module _ {T : Type 0} (plan : T → ℕ → ℕ → ℕ → ℕ → Doings T →
 
   module _ (x : T) (at : cell ≡ place s.processes s.who j)
       (may : MayWrite (plan (opening_of f) 3 (processes_of f) (limit_of f) (number_of s)) 3 x j
-      (doings (times_of s) (writes_of s) (reads_of s))) where
+      (doings_of s)) where
     mine_to_write : MayWrite (plan s.spare 3 s.processes (limit_of f) (known_by s).who) 3 x j (done_by s.spare s.processes (known_by s))
     mine_to_write = subst (λ (z : T × ℕ × ℕ). MayWrite (plan z.0 3 z.1 (limit_of f) z.2) 3 x j
         (done_by s.spare s.processes (known_by s))) (λ i. (sym own.opening i, sym own.processes i, sym own.who i)) may
@@ -208,7 +210,7 @@ module _ {T : Type 0} (plan : T → ℕ → ℕ → ℕ → ℕ → Doings T →
 
   module _ (at : cell ≡ place s.processes j s.who)
       (may : MayRead (plan (opening_of f) 3 (processes_of f) (limit_of f) (number_of s)) 3 j
-      (doings (times_of s) (writes_of s) (reads_of s))) where
+      (doings_of s)) where
     mine_to_read : MayRead (plan s.spare 3 s.processes (limit_of f) (known_by s).who) 3 j (done_by s.spare s.processes (known_by s))
     mine_to_read = subst (λ (z : T × ℕ × ℕ). MayRead (plan z.0 3 z.1 (limit_of f) z.2) 3 j
         (done_by s.spare s.processes (known_by s))) (λ i. (sym own.opening i, sym own.processes i, sym own.who i)) may

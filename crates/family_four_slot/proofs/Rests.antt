@@ -22,7 +22,7 @@ use Rattle.family_four_slot.specs.FourSlots.{Idle}
 use Rattle.family_four_slot.specs.declared.family.Shown.{Shown}
 use Rattle.family_four_slot.specs.Words.{none_shown, number_chosen, shown_to, IsAtRest, IsRow, IsColumn, HasSlots}
 use Rattle.family_table.proofs.Places.{place_apart, writer_there}
-use Rattle.family_four_slot.proofs.Places.{is_layout}
+use Rattle.family_four_slot.specs.Laid.{is_layout}
 use Rattle.family_table.proofs.Frames.{IsChanged}
 
 -- a seat remembers what it stored last in the cell to process j, or the slot that it took in the one from it, and of the others what it did

@@ -5,6 +5,8 @@ use lib.ListN.{get_elem?}
 use Rattle.history_core.specs.Registers.{intervals, IsRegular}
 use Rattle.cell_contract.specs.Accesses.{ReadAccesses, WriteAccesses}
 use Rattle.cell_contract.specs.Ends.{Each}
+use Rattle.cell_contract.specs.declared.said.Said.{Said}
+use Rattle.cell_contract.specs.declared.said.Found.{Found}
 use Rattle.cell_contract.specs.Plans.{AreSoFar, Doings, doings}
 use Rattle.cell_contract.specs.declared.sight.Sight.TheVariants.{Spent}
 use Rattle.cell_four_slot.specs.Steps.{FourSlotSight}
@@ -12,13 +14,13 @@ use Rattle.family_table.specs.declared.notes.Process.{Process}
 use Rattle.family_table.specs.Ends.{AllSoFar}
 use Rattle.family_table.specs.Left.{AreSoFarWith}
 use Rattle.family_table.specs.Places.{place}
-use Rattle.family_table.specs.Seated.{AreAmong, known_by, number_of, times_of}
-use Rattle.family_table.proofs.Numbered.{first_there, or_none, there as process_there}
+use Rattle.family_table.specs.Seated.{AreAmong, known_by, number_of, times_of, said_of, found_of}
+use Rattle.family_table.proofs.Numbered.{first_there, found_said, or_none, there as process_there}
 use Rattle.family_table.proofs.Places.{place_in}
 use Rattle.family_four_slot.specs.declared.family.FourSlotFamily.{FourSlotFamily}
 use Rattle.family_four_slot.specs.Places.{four_slots}
 use Rattle.family_four_slot.specs.Plans.{done_by, IsPlanned}
-use Rattle.family_four_slot.specs.Seated.{FourSlotSeat, opening_of, processes_of, limit_of, writes_of, reads_of, IsSeat}
+use Rattle.family_four_slot.specs.Seated.{FourSlotSeat, opening_of, processes_of, limit_of, writes_of, reads_of, IsSeat, doings_of}
 use Rattle.family_four_slot.specs.Tables.{Done}
 use Rattle.family_four_slot.specs.Words.{reads_from, writes_to}
 use Rattle.family_four_slot.proofs.Calls.{sees_reads, sees_writes}
@@ -51,15 +53,17 @@ module _ {T : Type 0} (plan : T → ℕ → ℕ → ℕ → ℕ → Doings T →
       subst (λ (z : WriteAccesses T × ReadAccesses T). IsRegular o z.0.items (intervals z.0.times.begins z.0.times.ends)
       z.1.answers z.1.numbers (intervals z.1.times.begins z.1.times.ends)) (λ x. (sym w x, sym g x)) h
 
-  abbrev are_so_far : (who : ℕ) (times : List ℕ) (writes : ℕ → WriteAccesses T) (reads : ℕ → ReadAccesses T) →
-      done_by o n (at who) ≡ doings times writes reads → ((i : ℕ) → (reads_from o n (at who) i).numbers ≡ (reads i).numbers) →
-      AreSoFar (plan o 3 n limit) o n who times writes reads
-  are_so_far who times writes reads known numbered = record {
+  abbrev are_so_far : (who : ℕ) (times : List ℕ) (writes : ℕ → WriteAccesses T) (reads : ℕ → ReadAccesses T) (said : List Said)
+      (found : List Found) → done_by o n (at who) ≡ doings times writes reads said found →
+      ((i : ℕ) → (reads_from o n (at who) i).numbers ≡ (reads i).numbers) →
+      AreSoFar (plan o 3 n limit) o n who times writes reads said found
+  are_so_far who times writes reads said found known numbered = record {
     steps = all.steps;
     done = λ i. done_by o n (at i);
     schedule = all.within;
     made = λ i l. all.made i (at i) (there i l);
     planned = λ i l. (all.planned i (at i) (there i l)).1;
+    finds = found_said Spent (four_slots n) (Done o) (IsPlanned plan o limit n) n ps all;
     known = known;
     numbers = λ i j. (reads_from o n (at j) i).numbers;
     numbered = numbered;
@@ -76,7 +80,7 @@ module _ {T : Type 0} (plan : T → ℕ → ℕ → ℕ → ℕ → Doings T →
   mine : at_number (number_of s) ≡ known_by s
   mine = ap at_number (sym own.who) ∙ ap or_none (all.among a (known_by s) among)
 
-  known_of : done_by (opening_of f) (processes_of f) (at_number (number_of s)) ≡ doings (times_of s) (writes_of s) (reads_of s)
+  known_of : done_by (opening_of f) (processes_of f) (at_number (number_of s)) ≡ doings_of s
   known_of i = done_by (sym own.opening i) (sym own.processes i) (mine i)
 
   numbers_of : (i : ℕ) → (reads_from (opening_of f) (processes_of f) (at_number (number_of s)) i).numbers ≡ (reads_of s i).numbers
@@ -86,9 +90,10 @@ module _ {T : Type 0} (plan : T → ℕ → ℕ → ℕ → ℕ → Doings T →
     (all : AllSoFar Spent (four_slots (processes_of f)) (Done (opening_of f)) (IsPlanned plan (opening_of f) (limit_of f) (processes_of f))
     (processes_of f) (known_by s ∷ [])) where
   pub seat_so_far : AreSoFar (plan (opening_of f) 3 (processes_of f) (limit_of f)) (opening_of f) (processes_of f) (number_of s)
-      (times_of s) (writes_of s) (reads_of s)
+      (times_of s) (writes_of s) (reads_of s) (said_of s) (found_of s)
   seat_so_far = are_so_far plan (opening_of f) (processes_of f) (limit_of f) (known_by s ∷ []) all (number_of s) (times_of s) (writes_of s)
-      (reads_of s) (known_of plan f (known_by s ∷ []) all s own 0 refl) (numbers_of plan f (known_by s ∷ []) all s own 0 refl)
+      (reads_of s) (said_of s) (found_of s) (known_of plan f (known_by s ∷ []) all s own 0 refl)
+      (numbers_of plan f (known_by s ∷ []) all s own 0 refl)
 
 -- several seats are shown together, of which there is one
 module _ {T : Type 0} (plan : T → ℕ → ℕ → ℕ → ℕ → Doings T → Type 0) (f : FourSlotFamily T) (seats : List (FourSlotSeat T))
@@ -96,7 +101,7 @@ module _ {T : Type 0} (plan : T → ℕ → ℕ → ℕ → ℕ → Doings T →
     (all : AllSoFar Spent (four_slots (processes_of f)) (Done (opening_of f)) (IsPlanned plan (opening_of f) (limit_of f) (processes_of f))
     (processes_of f) ps) where
   pub seats_so_far : AreSoFarWith (plan (opening_of f) 3 (processes_of f) (limit_of f)) (opening_of f) (processes_of f) number_of
-      times_of writes_of reads_of seats
+      times_of writes_of reads_of said_of found_of seats
   seats_so_far =
       let first = first_there seats some in
       let s : FourSlotSeat T = first.0 in
@@ -104,7 +109,8 @@ module _ {T : Type 0} (plan : T → ℕ → ℕ → ℕ → ℕ → Doings T →
       record {
         one = s;
         all = are_so_far plan (opening_of f) (processes_of f) (limit_of f) ps all (number_of s) (times_of s) (writes_of s) (reads_of s)
-            (known_of plan f ps all s (own 0 s first.1) of.0 of.1) (numbers_of plan f ps all s (own 0 s first.1) of.0 of.1);
+            (said_of s) (found_of s) (known_of plan f ps all s (own 0 s first.1) of.0 of.1)
+            (numbers_of plan f ps all s (own 0 s first.1) of.0 of.1);
         each = λ x t e. let b = among x t e in known_of plan f ps all t (own x t e) b.0 b.1;
         numbers = λ x i t e. let b = among x t e in numbers_of plan f ps all t (own x t e) b.0 b.1 i;
       }

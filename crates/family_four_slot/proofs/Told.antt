@@ -23,9 +23,9 @@ use Rattle.family_table.specs.Layouts.{shift}
 use Rattle.family_four_slot.specs.Places.{four_slots, word_at, slot_at}
 use Rattle.family_table.specs.Family.{of_cell, knows, StepTells}
 use Rattle.family_four_slot.specs.FourSlots.{When, FourSlotFamily}
-use Rattle.family_four_slot.specs.Plans.{MayAsk, MayBegin, MayFinish, MaySay, MayStore, MayTake}
+use Rattle.family_four_slot.specs.Plans.{MayAsk, MayBegin, MayFinish, MaySayPair, MayStore, MayTake}
 use Rattle.family_four_slot.specs.Steps.{After, begins, stores, finishes_counting, asks, says_counting, takes}
-use Rattle.family_four_slot.proofs.Places.{is_layout}
+use Rattle.family_four_slot.specs.Laid.{is_layout}
 use Rattle.family_four_slot.proofs.FourSlots.{family_begins, family_stores, family_finishes, family_asks, family_says, family_takes}
 
 -- a step that tells more
@@ -197,7 +197,7 @@ module _ {T : Type 0} (fits : T → Type 0) (rises : T → T → Type 0) (o : T)
       (slots id word k new : ℕ) (me : Me T (View W)) (v : Process W) (g : ReaderNotes T) (before behind : List (ℕ × T)) →
       word ≡ word_at k 1 → k < (four_slots n).cells → k < length v.parts → me.0 ≡ Has (v ∷ []) → of_cell Spent k v.parts ≡ Reader g →
       me.1 ≡ before ++ (shift (slot_at k) (slot_of_choice g.chosen g.at_hand.value) ++ behind) → v.held ≡ held_slots me.1 →
-      g.stage ≡ reader.R1 → new ≡ bit_number g.slot.pair → MaySay Plan k v g →
+      g.stage ≡ reader.R1 → new ≡ bit_number g.slot.pair → MaySayPair Plan k v g →
       Allows F slots id me word (λ _. new) (λ _. says_counting count (step slots word new 0 none) me new)
   says_ok count few slots id word k new me v g before behind at lk has who is slots_are held stage to may =
       let cell_cs : List (ℕ × T) = slot_of_choice g.chosen g.at_hand.value in

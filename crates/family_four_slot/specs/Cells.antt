@@ -1,7 +1,7 @@
 -- A four-slot cell of a family: at the start two processes have its notes; a process at rest
 -- tells a receipt and learns one.
-use Rattle.std.proofs.Common.{◌≡◌, ℕ, Bool, true, false, nat_eq, cond, List, [], ◌∷◌, ◌++◌, set}
-use Rattle.std.proofs.Common.{refl, sym, subst, arith, ⊎_elim}
+use Rattle.std.proofs.Common.{◌≡◌, ℕ, ◌≤◌, Bool, true, false, nat_eq, cond, List, [], ◌∷◌, ◌++◌, set}
+use Rattle.std.proofs.Common.{refl, sym, subst, arith, le_trans, ⊎_elim}
 use Rattle.std.proofs.lemmas.Bool.Decides.{nat_tests}
 use mathlib.Core.Option.{some}
 use lib.ListN.{get_elem?}
@@ -21,6 +21,10 @@ module _ {T : Type 0} (fits : T → Type 0) (rises : T → T → Type 0) (o : T)
 
   abbrev Rule : ℕ → State T V → Type 0
   Rule = CellRule fits rises o
+
+  -- what is so up to a time is so up to a later one
+  pub cell_later : (now t : ℕ) (s : State T V) → now ≤ t → Rule now s → Rule t s
+  cell_later now t s l r = (r.0, le_trans r.1 l)
 
   -- no view changes
   stays : (now : ℕ) (s : State T V) (r : Rule now s) (id : ℕ) (v : V) → get_elem? s.views id ≡ some v →

@@ -2,6 +2,7 @@ pub mod Access
 pub mod Cells
 pub mod Ends
 pub mod FourSlots
+pub mod Laid
 pub mod Places
 pub mod Plans
 pub mod Seated

@@ -28,7 +28,7 @@ use Rattle.family_four_slot.specs.Words.{writes_to, reads_from}
 module _ {T : Type 0} where
   -- what a process has done, in a family of n whose registers opened with this record
   abbrev pub done_by : T → ℕ → Process (FourSlotSight T) → Doings T
-  done_by o n v = doings v.times (writes_to o n v) (reads_from o n v)
+  done_by o n v = doings v.times (writes_to o n v) (reads_from o n v) v.said v.found
 
   -- that is of the records' plan; and so of a family's key
   abbrev pub DoesAsPlanned : (T → ℕ → ℕ → ℕ → ℕ → Doings T → Type 0) → T → ℕ → ℕ → ℕ → Process (FourSlotSight T) →
@@ -68,8 +68,8 @@ module _ {T : Type 0} (Plan : ℕ → Process (FourSlotSight T) → Type 0) (k :
   MayAsk g = (b : Bool) (t : ℕ) (held : List ℕ) → v.clock < t →
       Plan v.who (knows Spent v k (Reader (asked_by g b t)) t held)
 
-  abbrev pub MaySay : ReaderNotes T → Type 0
-  MaySay g = (count t : ℕ) (held : List ℕ) → v.clock < t →
+  abbrev pub MaySayPair : ReaderNotes T → Type 0
+  MaySayPair g = (count t : ℕ) (held : List ℕ) → v.clock < t →
       Plan v.who (knows Spent v k (Reader (said_with g count t)) t held)
 
   abbrev pub MayTake : ReaderNotes T → Type 0
@@ -83,7 +83,7 @@ module _ {T : Type 0} (Plan : ℕ → Process (FourSlotSight T) → Type 0) (k :
       MayFinish Plan k (knows Spent v k (Writer (stored_by p t)) t held) (stored_by p t))
 
   abbrev pub MayGet : ReaderNotes T → Type 0
-  MayGet g = MaySay Plan k v g × ((count t : ℕ) (held : List ℕ) → v.clock < t →
+  MayGet g = MaySayPair Plan k v g × ((count t : ℕ) (held : List ℕ) → v.clock < t →
       MayTake Plan k (knows Spent v k (Reader (said_with g count t)) t held) (said_with g count t))
 
 -- R1 to R3
@@ -175,7 +175,7 @@ module _ {T : Type 0} where
     }
 
     done_stays : done_by o n u ≡ done_by o n v
-    done_stays = λ z. record { times = v.times; writes = λ j. writes_stay j z; reads = λ j. reads_stay j z }
+    done_stays = λ z. record (done_by o n v) { writes = λ j. writes_stay j z; reads = λ j. reads_stay j z }
 
   pub receipts_keep_plans : (plan : T → ℕ → ℕ → ℕ → ℕ → Doings T → Type 0) (o : T) (limit n i : ℕ)
       (v : Process (FourSlotSight T)) (r : Receipt (FourSlotSight T)) → IsPlanned plan o limit n i v →

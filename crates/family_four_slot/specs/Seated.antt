@@ -10,12 +10,12 @@ use Rattle.cell_contract.specs.declared.times.Known.{Known}
 use Rattle.cell_contract.specs.declared.sight.Sight.TheVariants.{Spent, Told as Tells}
 use Rattle.cell_four_slot.specs.Steps.{FourSlotSight}
 use Rattle.cell_contract.specs.Accesses.{WriteAccesses, ReadAccesses}
-use Rattle.cell_contract.specs.Plans.{AreSoFar, Doings}
+use Rattle.cell_contract.specs.Plans.{AreSoFar, Doings, doings}
 use Rattle.family_four_slot.specs.declared.family.FourSlotFamily.{FourSlotFamily}
 use Rattle.family_four_slot.specs.declared.family.Stored.{Stored}
 use Rattle.family_table.specs.declared.processes.ProcessSeat.{ProcessSeat}
 use Rattle.family_table.specs.declared.processes.ProcessReceipt.{ProcessReceipt}
-use Rattle.family_table.specs.Seated.{known_by, times_of, told_in}
+use Rattle.family_table.specs.Seated.{known_by, times_of, told_in, said_of, found_of}
 use Rattle.family_table.specs.declared.notes.View.TheVariants.{Told, Has}
 use Rattle.family_table.specs.Family.{of_cell}
 use Rattle.family_four_slot.specs.FourSlots.{first_process}
@@ -51,6 +51,9 @@ module _ {T : Type 0} where
   abbrev pub reads_of : FourSlotSeat T → ℕ → ReadAccesses T
   reads_of s = reads_from s.spare s.processes (known_by s)
 
+  abbrev pub doings_of : FourSlotSeat T → Doings T
+  doings_of s = doings (times_of s) (writes_of s) (reads_of s) (said_of s) (found_of s)
+
   -- the seat has one process of the family, between two calls
   pub record IsSeat (f : FourSlotFamily T) (s : FourSlotSeat T) : Type 0 where
     pub table : s.seat.inner.table_id ≡ f.table.rows.inner.shared.table_id
@@ -63,7 +66,7 @@ module _ {T : Type 0} where
   -- what all processes have done so far, shown by a seat
   abbrev pub SeatShowsAll : (T → ℕ → ℕ → ℕ → ℕ → Doings T → Type 0) → FourSlotFamily T → FourSlotSeat T → Type 0
   SeatShowsAll plan f s = AreSoFar (plan (opening_of f) 3 (processes_of f) (limit_of f)) (opening_of f)
-      (processes_of f) s.who (times_of s) (writes_of s) (reads_of s)
+      (processes_of f) s.who (times_of s) (writes_of s) (reads_of s) (said_of s) (found_of s)
 
   -- the record that a receipt names to process j, and all that was written to that one up to then
   abbrev pub naming : FourSlotReceipt T → ℕ → Dated T

@@ -2,25 +2,25 @@
 ghost use Rattle.std.specs.Prelude.{◌≡◌, ◌≢◌, ◌||◌, ℕ, ◌<◌, List, [], ◌∷◌, IfOk, vec_len, vec_capacity};
 ghost use Rattle.history_core.specs.Schedules.{positions};
 ghost use Rattle.cell_contract.specs.Running.{last_or};
-ghost use Rattle.cell_contract.specs.Ends.{Each, EachTwo, IsSchedule, IsAtomicCell};
-ghost use Rattle.cell_contract.specs.Plans.{doings, MayRead, MayWrite};
+ghost use Rattle.cell_contract.specs.Ends.{Each, EachTwo, IsSchedule, IsAtomicCell, FindWhatWasSaid};
+ghost use Rattle.cell_contract.specs.Plans.{MayRead, MayWrite};
 ghost use Rattle.cell_contract.specs.Rows.{IsReadFrom, IsWriteTo};
 ghost use Rattle.family_table.specs.Left.{AreSoFarWith};
 ghost use Rattle.family_table.specs.Places.{place};
 ghost use Rattle.family_four_slot.specs.Access.{shown_by};
 ghost use Rattle.family_four_slot.specs.FourSlots.{first_view};
 ghost use Rattle.family_table.specs.declared.notes.View.TheVariants.{Has};
-ghost use Rattle.family_table.specs.Seated.{known_by};
+ghost use Rattle.family_table.specs.Seated.{known_by, said_of, found_of};
 ghost use Rattle.family_four_slot.specs.Seated.{IsFirst};
 ghost use Rattle.family_table.specs.declared.notes.Process.{Process};
 ghost use Rattle.cell_four_slot.specs.Steps.{FourSlotSight};
 ghost use Rattle.family_table.specs.Seated.{number_of, clock_of, times_of};
 ghost use Rattle.family_four_slot.specs.Seated.{opening_of, processes_of, limit_of, writes_of};
-ghost use Rattle.family_four_slot.specs.Seated.{reads_of, IsSeat, SeatShowsAll};
+ghost use Rattle.family_four_slot.specs.Seated.{reads_of, IsSeat, SeatShowsAll, doings_of};
 ghost use Rattle.family_table.specs.Seated.{sender_of, time_of};
 ghost use Rattle.family_four_slot.specs.Seated.{named_by, carried_by, IsReceipt, three_are_few, three_steps};
 
-use crate::table::{FamilySeat, FamilyTable};
+use crate::table::{FamilySeat, FamilyTable, words_of_cells};
 use cell_contract::{Family, Kept, Planned, Sees, SharedFamily, SoFar};
 use cell_four_slot::{FourSlotSight, bit_of, other_bit, set_bit, slot_of};
 use family_table::left::EndsWithSome;
@@ -105,9 +105,9 @@ impl<T: Planned> FourSlotFamily<T> {
             × T.rises (last_or (opening_of self.now) (writes_of seat.old to).items) item.now }
         requires plan { MayWrite
             (T.plan (opening_of self.now) 3 (processes_of self.now) (limit_of self.now)
-            (number_of seat.old)) 3 item.now to (doings (times_of seat.old) (writes_of seat.old) (reads_of seat.old)) }
+            (number_of seat.old)) 3 item.now to (doings_of seat.old) }
         ensures write { IsWriteTo (IsSeat self.now)
-            number_of clock_of times_of writes_of reads_of 3 item.now to seat.old seat.new }
+            number_of clock_of times_of writes_of reads_of said_of found_of 3 item.now to seat.old seat.new }
         ensures so_far { SeatShowsAll T.plan self.now seat.new }
     {
         let table = &self.table;
@@ -139,8 +139,8 @@ impl<T: Planned> FourSlotFamily<T> {
         requires at { cell ≡ place seat.old.processes from seat.old.who }
         requires plan { MayRead
             (T.plan (opening_of self.now) 3 (processes_of self.now) (limit_of self.now) (number_of seat.old)) 3 from
-            (doings (times_of seat.old) (writes_of seat.old) (reads_of seat.old)) }
-        ensures read { IsReadFrom (IsSeat self.now) number_of clock_of times_of writes_of reads_of 3
+            (doings_of seat.old) }
+        ensures read { IsReadFrom (IsSeat self.now) number_of clock_of times_of writes_of reads_of said_of found_of 3
             (opening_of self.now) T.fits T.rises (shown_by again L.sees) from
             (seat.old, seen.old) (seat.new, seen.new) }
         ensures so_far { SeatShowsAll T.plan self.now seat.new }
@@ -191,6 +191,10 @@ impl<T: Planned> Family<T> for FourSlotFamily<T> {
     ghost writes = { writes_of };
 
     ghost reads = { reads_of };
+
+    ghost said = { said_of };
+
+    ghost found = { found_of };
 
     ghost sender = { sender_of };
 
@@ -246,6 +250,20 @@ impl<T: Planned> Family<T> for FourSlotFamily<T> {
         }
     }
 
+    #[inline]
+    fn say(&self, seat: &mut FourSlotSeat<T>, tag: u64) {
+        let words = words_of_cells(seat.processes);
+        self.table.rows.say(&mut seat.seat, words, seat.who, tag);
+    }
+
+    #[inline]
+    fn look(&self, seat: &mut FourSlotSeat<T>, from: usize, tag: u64) -> bool {
+        let words = words_of_cells(seat.processes);
+        self.table
+            .rows
+            .look::<Brand, Brand>(&mut seat.seat, words, from, tag)
+    }
+
     fn tell(&self, seat: &mut FourSlotSeat<T>) -> FourSlotReceipt<T> {
         let told = self.table.rows.tell(&mut seat.seat);
         ProcessReceipt {
@@ -284,6 +302,7 @@ impl<T: Planned> Family<T> for FourSlotFamily<T> {
             × Each (λ i s. times_of s ≡ positions 1 i steps) seats.old.items }
         ensures atomic { EachTwo
             (λ i j s t. IsAtomicCell (opening_of self.now) (writes_of s j) (reads_of t i)) seats.old.items }
+        ensures finds { FindWhatWasSaid said_of found_of seats.old.items }
     {
         show(&self.table.rows, seats);
     }
@@ -294,6 +313,7 @@ impl<T: Planned> Family<T> for FourSlotFamily<T> {
             × Each (λ i s. times_of s ≡ positions 1 i steps) seats.items }
         ensures atomic { EachTwo
             (λ i j s t. IsAtomicCell (opening_of self) (writes_of s j) (reads_of t i)) seats.items }
+        ensures finds { FindWhatWasSaid said_of found_of seats.items }
     {
         let FourSlotFamily { table } = self;
         let FamilyTable { rows } = table;
@@ -313,7 +333,7 @@ impl<T: Planned> EndsWithSome<T> for FourSlotFamily<T> {
         requires some { 0 < vec_len seats }
         requires seats { Each (λ i s. IsSeat self s) seats.items }
         ensures so_far { AreSoFarWith (T.plan (opening_of self) 3 (processes_of self) (limit_of self)) (opening_of self)
-            (processes_of self) number_of times_of writes_of reads_of seats.items }
+            (processes_of self) number_of times_of writes_of reads_of said_of found_of seats.items }
     {
         let FourSlotFamily { table } = self;
         let FamilyTable { rows } = table;

@@ -5,7 +5,8 @@ ghost use Rattle.cell_four_slot.specs.Steps.{hears_of, receipt_for};
 ghost use Rattle.family_four_slot.specs.Places.{four_slots};
 ghost use Rattle.family_four_slot.specs.FourSlots.{CellRule, Idle, first_view};
 ghost use Rattle.family_four_slot.specs.Tables.{Done};
-ghost use Rattle.family_four_slot.specs.Cells.{cell_tells, cell_hears, deaf, mute};
+ghost use Rattle.family_four_slot.specs.Cells.{cell_later, cell_tells, cell_hears, deaf, mute};
+ghost use Rattle.family_four_slot.specs.Laid.{is_layout};
 ghost use Rattle.family_four_slot.specs.Ends.{cell_ends};
 ghost use Rattle.family_four_slot.specs.Plans.{IsPlanned, receipts_keep_plans};
 
@@ -34,6 +35,10 @@ impl<T: Planned> Mechanism<T, FourSlotSight<T>> for FourSlotMechanism {
     ghost hears = { hears_of };
 
     ghost done = { Done };
+
+    ghost laid = { is_layout };
+
+    ghost later = { λ o. cell_later T.fits T.rises o };
 
     ghost plain = { refl };
 

@@ -20,7 +20,7 @@ ghost use Rattle.family_four_slot.specs.Places.{four_slots, slot_at};
 ghost use Rattle.family_four_slot.specs.FourSlots.{first_view, Idle};
 ghost use Rattle.family_four_slot.specs.Access.{HasLooked};
 ghost use Rattle.family_four_slot.specs.Plans.{plan_of, MayAsk, MayBegin, MayFinish, MayGet, MayLook, MayPublish};
-ghost use Rattle.family_four_slot.specs.Plans.{MaySay, MayTake, ShowsAll};
+ghost use Rattle.family_four_slot.specs.Plans.{MaySayPair, MayTake, ShowsAll};
 ghost use Rattle.family_four_slot.specs.Steps.{begins, stores_on, publishes, finishes, asks, says, takes, takes_on};
 ghost use Rattle.family_four_slot.specs.Tables.{HasWriter, HasReader, IsEnded};
 ghost use Rattle.family_four_slot.specs.Words.{number_chosen};
@@ -36,11 +36,13 @@ use family_table::table::Rows;
 use std::alloc::{AllocError, Global};
 use std::snapshot::Snapshot;
 
-/// The words and slots of all cells. Eight words that nobody stores to come first.
+/// The words and slots of all cells. Eight words that nobody stores to come first, and last a word of each process, in
+/// which it says its tags.
 #[derive(Drop)]
 pub struct FamilyTable<T: Planned> {
     pub(crate) rows: Rows<T, FourSlotSight<T>, FourSlotMechanism>,
-    ghost sized: { rows.inner.shared.table_id.words ≡ (four_slots rows.inner.shared.key.processes).words },
+    ghost sized: { rows.inner.shared.table_id.words
+        ≡ (four_slots rows.inner.shared.key.processes).words + 8 * rows.inner.shared.key.processes },
 }
 
 /// A seat at the table.
@@ -53,6 +55,15 @@ fn base(cell: usize) -> usize
     ensures { result ≡ 16 * cell + 8 }
 {
     16 * cell + 8
+}
+
+/// How many words come before those of tags.
+#[inline]
+pub(super) fn words_of_cells(processes: usize) -> usize
+    requires { processes ≤ 16 }
+    ensures { (result ≡ (four_slots processes).words) × (result ≤ 4104) }
+{
+    16 * (processes * processes) + 8
 }
 
 /// The place of a cell's slot.
@@ -261,7 +272,7 @@ impl<T: Planned> FamilyTable<T> {
             × (behind : List (ℕ × T)) × HasReader seat.old.inner.me cell v g
             × (seat.old.inner.me.1
             ≡ before ++ (shift (slot_at cell) (slot_of_choice g.chosen g.at_hand.value) ++ behind)) × (g.stage ≡ R1)
-            × (pair ≡ bit_number g.slot.pair) × MaySay (plan_of T.plan self.now.rows.inner.shared.key) cell v g }
+            × (pair ≡ bit_number g.slot.pair) × MaySayPair (plan_of T.plan self.now.rows.inner.shared.key) cell v g }
         ensures own { seat.new.inner.table_id ≡ seat.old.inner.table_id }
         ensures said { says (step self.now.rows.inner.shared.table_id.slots (16 * cell + 8 + 8) pair 0 none)
             seat.old.inner.me pair seat.new.inner.me }

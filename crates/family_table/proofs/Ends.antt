@@ -1,6 +1,6 @@
 -- What the last state of a family shows of the processes that a seat has: one schedule, and each register's calls.
-use Rattle.std.proofs.Common.{◌≡◌, ℕ, List, [], ◌∷◌, map, refl, sym, ap, ◌∙◌, subst, slice_index}
-use mathlib.Core.Option.{some}
+use Rattle.std.proofs.Common.{◌≡◌, ℕ, ◌<◌, length, arith, List, [], ◌∷◌, map, refl, sym, ap, ◌∙◌, subst, slice_index}
+use mathlib.Core.Option.{some, some-injective}
 use lib.ListN.{get_elem?}
 use Rattle.atomic_table.specs.Table.{State, Me, Step, Allows, keeps, Final, Seen, stepped}
 use Rattle.atomic_table.proofs.Lists.{at_map, at_longer, set_here}
@@ -8,6 +8,7 @@ use Rattle.family_table.specs.declared.notes.Process.{Process}
 use Rattle.family_table.specs.declared.notes.Receipt.{Receipt}
 use Rattle.family_table.specs.declared.notes.View.{View}
 use Rattle.family_table.specs.declared.notes.View.TheVariants.{Has}
+use Rattle.cell_contract.specs.Ends.{WasSaid}
 use Rattle.family_table.specs.Ends.{AllDone, AllSoFar, CellEnds, shows, shows_all, shows_behind}
 use Rattle.family_table.specs.Family.{of_cell, cell, Shows, FamilyRule}
 use Rattle.family_table.specs.Layouts.{Layout}
@@ -32,6 +33,13 @@ module _ {T V : Type 0} (blank : V) (layout : ℕ → Layout) (Rule : T → ℕ 
         steps = r.steps;
         within = r.within;
         made = λ a p e. r.made p.who p (at a p e);
+        finds = λ a y p f e h. let was = r.tags.finds p.who y p f (at a p e) h in
+            let inside : f.who < length r.processes = within r.processes f.who was.0 was.1 in
+            let many : length r.processes ≡ n = r.many in (
+              omega arith,
+              λ b q d same. subst (λ (z : Process V). WasSaid z.said f)
+                  (some-injective was.0 q (sym was.1 ∙ (ap (get_elem? r.processes) (sym same) ∙ at b q d))) was.2,
+            );
         cells = λ a b p q d e k lk.
             let c : State T V = cell blank (layout n) k s.words s.homes r.processes r.receipts in
             let told : List V = map (λ (z : Receipt V). of_cell blank k z.parts) r.receipts in
@@ -70,6 +78,7 @@ module _ {T V : Type 0} (blank : V) (layout : ℕ → Layout) (Rule : T → ℕ 
         numbered = r.numbered;
         made = r.made;
         planned = r.planned;
+        finds = r.tags.finds;
         cells = λ i j k v w d e lk.
             let c : State T V = cell blank (layout n) k s.words s.homes r.processes r.receipts in
             let told : List V = map (λ (z : Receipt V). of_cell blank k z.parts) r.receipts in

@@ -1,9 +1,10 @@
 -- Lists of elements in turn, and lists of one element again and again.
-use Rattle.std.proofs.Common.{◌≡◌, ℕ, zero, suc, ◌+◌, ◌-◌, ◌<◌, Bool, true, List, [], ◌∷◌, ◌++◌, map, take, length, get_or, replicate, refl}
-use Rattle.std.proofs.Common.{sym, ap, ◌∙◌, arith}
+use Rattle.std.proofs.Common.{◌≡◌, ℕ, zero, suc, ◌+◌, ◌-◌, ◌*◌, ◌<◌, ◌≤◌, Bool, true, List, [], ◌∷◌, ◌++◌, map, take, length, get_or}
+use Rattle.std.proofs.Common.{replicate, refl}
+use Rattle.std.proofs.Common.{sym, ap, ◌∙◌, arith, length-append}
 use Rattle.std.specs.Prelude.{if◌then◌else◌}
 use mathlib.Core.Option.{some, some-injective, some-ne-none}
-use lib.ListN.{get_elem?}
+use lib.ListN.{get_elem?, get_or-replicate}
 use Rattle.family_table.specs.Places.{upto}
 
 module _ {A : Type 0} where
@@ -38,14 +39,45 @@ module _ {A : Type 0} where
       ∙ (ap (λ zs. take n zs ++ replicate (n - m) x) e ∙ (ap (λ zs. zs ++ replicate (n - m) x) (take_none n)
       ∙ ap (λ k. replicate k x) (let d : n - m ≡ n = omega arith in d))))
 
-  pub map_replicate : {B : Type 0} (f : A → B) (n : ℕ) (x : A) → map f (replicate n x) ≡ replicate n (f x)
-  map_replicate f zero x = refl
-  map_replicate f (suc n) x = ap (λ ys. f x ∷ ys) (map_replicate f n x)
-
   pub replicate_long : (n : ℕ) (x : A) → length (replicate n x) ≡ n
   replicate_long zero x = refl
   replicate_long (suc n) x = ap suc (replicate_long n x)
 
+  behind : (xs ys : List A) (i : ℕ) (d : A) → get_or (xs ++ ys) (length xs + i) d ≡ get_or ys i d
+  behind [] ys i d = ap (λ j. get_or ys j d) (omega arith)
+  behind (x ∷ xs) ys i d = ap (λ j. get_or (x ∷ (xs ++ ys)) j d) (let e : suc (length xs) + i ≡ suc (length xs + i) = omega arith in e)
+      ∙ behind xs ys i d
+
+  take_long : (n : ℕ) (xs : List A) → length xs ≤ n → take n xs ≡ xs
+  take_long n [] l = take_none n
+  take_long zero (x ∷ xs) l = absurd (omega arith)
+  take_long (suc n) (x ∷ xs) l = ap (λ ys. x ∷ ys) (take_long n xs (omega arith))
+
+  -- and filled up further
+  pub filled_more : (b : Bool) (n m k j : ℕ) (xs ys : List A) (x y : A) → b ≡ true → xs ≡ replicate k x → m ≡ k → n ≡ k + j →
+      ys ≡ (if b then take n xs ++ replicate (n - m) y else xs) → ys ≡ replicate k x ++ replicate j y
+  filled_more b n m k j xs ys x y t e z w h = h ∙ (ap (λ c. if c then take n xs ++ replicate (n - m) y else xs) t
+      ∙ (ap (λ zs. take n zs ++ replicate (n - m) y) e
+      ∙ (ap (λ zs. zs ++ replicate (n - m) y) (take_long n (replicate k x) (let l = replicate_long k x in omega arith))
+      ∙ ap (λ i. replicate k x ++ replicate i y) (let d : n - m ≡ j = omega arith in d))))
+
+  pub map_replicate : {B : Type 0} (f : A → B) (n : ℕ) (x : A) → map f (replicate n x) ≡ replicate n (f x)
+  map_replicate f zero x = refl
+  map_replicate f (suc n) x = ap (λ ys. f x ∷ ys) (map_replicate f n x)
+
 -- as many as there are of these in turn, the first one in front
 pub upto_next : {A : Type 0} (f : ℕ → A) (i n : ℕ) → i < n → upto f i (n - i) ≡ f i ∷ upto f (i + 1) (n - (i + 1))
 upto_next f i n l = ap (upto f i) (let e : n - i ≡ suc (n - (i + 1)) = omega arith in e)
+
+-- the words of a new table: those of so many words of cells, and then 8 for each process, which hold 0
+module _ (cells word n : ℕ) where
+  pub words_long : length (replicate cells word ++ replicate {A = ℕ} (8 * n) 0) ≡ cells + 8 * n
+  words_long =
+      let a = length-append (replicate cells word) (replicate {A = ℕ} (8 * n) 0) in
+      let b : length (replicate cells word) ≡ cells = replicate_long cells word in
+      let c : length (replicate {A = ℕ} (8 * n) 0) ≡ 8 * n = replicate_long (8 * n) 0 in
+      omega arith
+
+  pub unsaid : (i : ℕ) → i < n → get_or (replicate cells word ++ replicate (8 * n) 0) (cells + 8 * i) 0 ≡ 0
+  unsaid i l = ap (λ j. get_or (replicate cells word ++ replicate (8 * n) 0) (j + 8 * i) 0) (sym (replicate_long cells word))
+      ∙ (behind (replicate cells word) (replicate (8 * n) 0) (8 * i) 0 ∙ get_or-replicate (8 * n) (8 * i) 0 0 (omega arith))

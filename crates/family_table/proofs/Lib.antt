@@ -4,12 +4,15 @@ pub mod Firsts
 pub mod Frames
 pub mod Gathering
 pub mod Held
+pub mod Looked
 pub mod Numbered
 pub mod Places
 pub mod Plans
 pub mod Receipts
+pub mod Saying
 pub mod Seats
 pub mod Showing
 pub mod Slices
 pub mod Steps
+pub mod Tags
 pub mod Totals

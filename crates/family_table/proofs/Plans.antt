@@ -6,6 +6,8 @@ use Rattle.history_core.specs.Others.{other}
 use Rattle.cell_contract.specs.Accesses.{ReadAccesses, WriteAccesses}
 use Rattle.cell_contract.specs.Plans.{Doings, doings, if_there, MayRead, MayReadEach, MayWrite, MayWriteEach, ReadsSoFar, WritesSoFar}
 use Rattle.cell_contract.specs.Rows.{OneByOne, IsReadFrom, IsWriteTo}
+use Rattle.cell_contract.specs.declared.said.Said.{Said}
+use Rattle.cell_contract.specs.declared.said.Found.{Found}
 use Rattle.cell_contract.specs.Rows.OneByOne.{no_call, one_more}
 
 -- a row or a column of one kind of call is one of another kind, as each call is
@@ -17,10 +19,11 @@ module _ {S R : Type 0} (seen : S → R) (Call : ℕ → S → S → Type 0) (As
       one_more count (seen now) (seen new) (each_as count now r) (same (other process count) now new call)
 
 module _ {S T : Type 0} (is_seat : S → Type 0) (who clock : S → ℕ) (times : S → List ℕ) (writes : S → ℕ → WriteAccesses T)
-    (reads : S → ℕ → ReadAccesses T) (width : ℕ) where
+    (reads : S → ℕ → ReadAccesses T) (said : S → List Said) (found : S → List Found) (width : ℕ) where
   -- a whole write has made all its steps
-  pub whole_write : (item : T) (to : ℕ) (old new : S) → IsWriteTo is_seat who clock times writes reads width item to old new →
-      WritesSoFar width width item to (doings (times old) (writes old) (reads old)) (doings (times new) (writes new) (reads new))
+  pub whole_write : (item : T) (to : ℕ) (old new : S) → IsWriteTo is_seat who clock times writes reads said found width item to old new →
+      WritesSoFar width width item to (doings (times old) (writes old) (reads old) (said old) (found old))
+      (doings (times new) (writes new) (reads new) (said new) (found new))
   whole_write item to old new call = record {
     steps = call.access.steps;
     long = call.access.long;
@@ -32,21 +35,22 @@ module _ {S T : Type 0} (is_seat : S → Type 0) (who clock : S → ℕ) (times 
       λ j ne. ap (λ (z : WriteAccesses T). record { items = z.items; begins = z.times.begins; ends = z.times.ends }) (call.others.0 j ne),
       λ j. ap (λ (z : ReadAccesses T). record { items = z.answers; begins = z.times.begins; ends = z.times.ends }) (call.others.1 j),
     );
+    tags = call.tags;
   }
 
   pub whole_writes : (item : T) (process : ℕ) (start : S) (count : ℕ) (now : S) →
-      OneByOne (IsWriteTo is_seat who clock times writes reads width item) process start count now →
-      OneByOne (WritesSoFar width width item) process (doings (times start) (writes start) (reads start)) count
-      (doings (times now) (writes now) (reads now))
-  whole_writes item = each_as (λ z. doings (times z) (writes z) (reads z))
-      (IsWriteTo is_seat who clock times writes reads width item) (WritesSoFar width width item) (whole_write item)
+      OneByOne (IsWriteTo is_seat who clock times writes reads said found width item) process start count now →
+      OneByOne (WritesSoFar width width item) process (doings (times start) (writes start) (reads start) (said start) (found start)) count
+      (doings (times now) (writes now) (reads now) (said now) (found now))
+  whole_writes item = each_as (λ z. doings (times z) (writes z) (reads z) (said z) (found z))
+      (IsWriteTo is_seat who clock times writes reads said found width item) (WritesSoFar width width item) (whole_write item)
 
   module _ {L : Type 0} (opening : T) (fits : T → Type 0) (rises : T → T → Type 0) (sees : T → L → T → L → Type 0) where
     -- a whole read has made all its steps, and has its answer
     pub whole_read : (from : ℕ) (old new : S × L) →
-        IsReadFrom is_seat who clock times writes reads width opening fits rises sees from old new →
-        ReadsSoFar width width from (doings (times old.0) (writes old.0) (reads old.0))
-        (doings (times new.0) (writes new.0) (reads new.0))
+        IsReadFrom is_seat who clock times writes reads said found width opening fits rises sees from old new →
+        ReadsSoFar width width from (doings (times old.0) (writes old.0) (reads old.0) (said old.0) (found old.0))
+        (doings (times new.0) (writes new.0) (reads new.0) (said new.0) (found new.0))
     whole_read from old new call = record {
       steps = call.access.steps;
       long = call.access.long;
@@ -60,14 +64,16 @@ module _ {S T : Type 0} (is_seat : S → Type 0) (who clock : S → ℕ) (times 
             (call.others.0 j ne),
         λ j. ap (λ (z : WriteAccesses T). record { items = z.items; begins = z.times.begins; ends = z.times.ends }) (call.others.1 j),
       );
+      tags = call.tags;
     }
 
     pub whole_reads : (process : ℕ) (start : S × L) (count : ℕ) (now : S × L) →
-        OneByOne (IsReadFrom is_seat who clock times writes reads width opening fits rises sees) process start count now →
-        OneByOne (ReadsSoFar width width) process (doings (times start.0) (writes start.0) (reads start.0)) count
-        (doings (times now.0) (writes now.0) (reads now.0))
-    whole_reads = each_as (λ z. doings (times z.0) (writes z.0) (reads z.0))
-        (IsReadFrom is_seat who clock times writes reads width opening fits rises sees) (ReadsSoFar width width) whole_read
+        OneByOne (IsReadFrom is_seat who clock times writes reads said found width opening fits rises sees) process start count now →
+        OneByOne (ReadsSoFar width width) process
+        (doings (times start.0) (writes start.0) (reads start.0) (said start.0) (found start.0)) count
+        (doings (times now.0) (writes now.0) (reads now.0) (said now.0) (found now.0))
+    whole_reads = each_as (λ z. doings (times z.0) (writes z.0) (reads z.0) (said z.0) (found z.0))
+        (IsReadFrom is_seat who clock times writes reads said found width opening fits rises sees) (ReadsSoFar width width) whole_read
 
 -- a process before the own one has its own number among the others, and one after it one less
 others_before : (i k : ℕ) → k < i → other i k ≡ k

@@ -1,7 +1,7 @@
 -- Receipts in a family: what one cell allows each time, in all cells at once.
 use Rattle.std.proofs.Common.{◌≡◌, ◌≢◌, ◌⊎◌, ℕ, zero, suc, ◌+◌, ◌<◌, ◌≤◌, max, List, [], ◌∷◌, ◌++◌, map, length, set, refl, sym, ap, ◌∙◌}
 use Rattle.std.proofs.Common.{subst}
-use Rattle.std.proofs.Common.{⊎_elim, inl, inr, arith}
+use Rattle.std.proofs.Common.{⊎_elim, inl, inr, arith, le_refl}
 use Rattle.std.proofs.lemmas.List.{map-append}
 use mathlib.Core.Option.{some}
 use lib.ListN.{get_elem?}
@@ -16,6 +16,7 @@ use Rattle.family_table.specs.Family.{total, of_cell, cell, holders, Shows, Fami
 use Rattle.family_table.specs.Family.{CellHears}
 use Rattle.family_table.proofs.Slices.{within, map_set, set_front, set_long, in_front}
 use Rattle.family_table.proofs.Steps.{count_of, shows_set}
+use Rattle.family_table.proofs.Tags.{tags_kept}
 use Rattle.family_table.proofs.Totals.{total_set, total_snoc, total_two}
 
 module _ {A : Type 0} where
@@ -99,6 +100,7 @@ module _ {V : Type 0} (blank : V) (receipt : V → V) (hears : V → V → V) (p
           made = r.made;
           away = r.away;
           apart = r.apart;
+          tags = r.tags;
           planned = r.planned;
           shows = λ j x e. ⊎_elim (λ (h : get_elem? s.views j ≡ some x). more r.processes r.receipts p x (r.shows j x h))
               (λ (h : Told p ≡ x). subst (Shows r.processes (r.receipts ++ p ∷ [])) h (in_last r.receipts p))
@@ -133,6 +135,7 @@ module _ {V : Type 0} (blank : V) (receipt : V → V) (hears : V → V → V) (p
           made = r.made;
           away = r.away;
           apart = r.apart;
+          tags = r.tags;
           planned = r.planned;
           shows = λ j x e. ⊎_elim (λ (h : get_elem? s.views j ≡ some x). r.shows j x h)
               (λ (h : Told p ≡ x). subst (Shows r.processes r.receipts) h (r.shows id (Told p) at)) (at_snoc s.views (Told p) x j e);
@@ -188,6 +191,7 @@ module _ {V : Type 0} (blank : V) (receipt : V → V) (hears : V → V → V) (p
               (λ (b : (j ≢ who) × (get_elem? r.processes j ≡ some z)). r.clocks j z b.1)
               (at_set r.processes who j u z e);
           told = r.told;
+          tags = tags_kept l r.now r.now s.words s.words r.processes who v u (le_refl r.now) mine refl refl (λ j lj. refl) r.tags;
           planned = λ j z e. ⊎_elim
               (λ (b : (j ≡ who) × (u ≡ z)). subst (λ (q : ℕ × Process V). Plan q.0 q.1) (λ h. (sym b.0 h, b.1 h))
               (stays who v p (r.planned who v mine)))

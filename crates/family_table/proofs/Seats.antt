@@ -1,5 +1,6 @@
 -- What is known of processes goes from seat to seat: the rule of the family stays, since only the seats' views change.
-use Rattle.std.proofs.Common.{true, ◌≡◌, ◌≢◌, ℕ, zero, suc, ◌+◌, ◌<◌, ◌≤◌, List, [], ◌∷◌, ◌++◌, map, length, set, refl, sym, ap, ◌∙◌, subst}
+use Rattle.std.proofs.Common.{true, ◌≡◌, ◌≢◌, ℕ, zero, suc, ◌+◌, ◌*◌, ◌<◌, ◌≤◌, List, [], ◌∷◌, ◌++◌, map, length, get_or, set, refl, sym}
+use Rattle.std.proofs.Common.{ap, ◌∙◌, subst}
 use Rattle.std.proofs.Common.{⊎_elim, arith, nat_eq, cond, false}
 use Rattle.std.proofs.lemmas.Bool.Decides.{nat_tests}
 use mathlib.Core.Option.{some, some-injective, some-ne-none}
@@ -10,9 +11,11 @@ use Rattle.atomic_table.proofs.Lists.{at_set, at_snoc}
 use Rattle.family_table.specs.declared.notes.Process.{Process}
 use Rattle.family_table.specs.declared.notes.View.{View}
 use Rattle.family_table.specs.declared.notes.View.TheVariants.{Has}
-use Rattle.family_table.specs.Layouts.{Layout, EachOf, IsInCell, Distinct}
+use Rattle.family_table.specs.Layouts.{Layout, said_at, EachOf, IsInCell, Distinct}
 use Rattle.family_table.specs.Family.{total, cell, holders, Shows, FamilyRule}
+use Rattle.family_table.proofs.Slices.{within}
 use Rattle.family_table.proofs.Steps.{count_of}
+use Rattle.family_table.proofs.Tags.{tags_start}
 use Rattle.family_table.proofs.Totals.{total_set, total_snoc}
 
 pub same_number : (m n : ℕ) → m ≡ n → nat_eq m n ≡ true
@@ -93,6 +96,7 @@ module _ {S V : Type 0} (blank : V) (l : Layout) (Rule : ℕ → State S V → T
     apart = r.apart;
     shows = shows;
     once = once;
+    tags = r.tags;
     planned = r.planned;
   }
 
@@ -148,12 +152,16 @@ module _ {S V : Type 0} (blank : V) (l : Layout) (Rule : ℕ → State S V → T
       let g : total (holders who) (set (set s.views id (Has (xs ++ ys))) other (Has [])) ≤ 1 = omega arith in g)
 
   -- at the start: one seat has all processes, none of which has done anything
-  pub family_starts : (words : List ℕ) (slots : List S) (ps : List (Process V)) → length words ≡ l.words → length slots ≡ l.slots →
-      length ps ≡ n → ((i : ℕ) (p : Process V) → get_elem? ps i ≡ some p → (p.who ≡ i) × (p.clock ≡ 0) × (p.times ≡ []) × (p.held ≡ [])) →
+  pub family_starts : (words : List ℕ) (slots : List S) (ps : List (Process V)) → length words ≡ l.words + 8 * n →
+      ((i : ℕ) → i < n → get_or words (said_at l i) 0 ≡ 0) → length slots ≡ l.slots → length ps ≡ n →
+      ((i : ℕ) (p : Process V) → get_elem? ps i ≡ some p →
+      (p.who ≡ i) × (p.clock ≡ 0) × (p.times ≡ []) × (p.held ≡ []) × (p.said ≡ []) × (p.found ≡ [])) →
       ((i : ℕ) (p : Process V) → get_elem? ps i ≡ some p → Plan i p) →
       ((k : ℕ) → k < l.cells → Rule 0 (cell blank l k words (map some slots) ps [])) → F (opening words slots (Has ps))
-  family_starts words slots ps lw ls many fresh planned cells = record {
+  family_starts words slots ps lw unsaid ls many fresh planned cells = record {
     planned = planned;
+    tags = tags_start l words ps (λ i p e. unsaid i (let b = within ps i p e in omega arith))
+        (λ i p e. let z = fresh i p e in (z.4, z.5));
     now = 0;
     processes = ps;
     receipts = [];

@@ -168,6 +168,17 @@ same_first k x y xs ys e = ap (first x) e where
   first d [] = d
   first d (z ∷ zs) = z.1
 
+-- elements that all stand in the first part
+pub gather_front : {A : Type 0} (f : ℕ → ℕ) (n : ℕ) (d : A) (xs ys : List A) → ((i : ℕ) → i < n → f i < length xs) →
+    gather f n d (xs ++ ys) ≡ gather f n d xs
+gather_front f zero d xs ys l = refl
+gather_front f (suc n) d xs ys l =
+    λ z. front xs ys (f zero) d (l zero (omega arith)) z ∷ gather_front (λ i. f (suc i)) n d xs ys (λ i li. l (suc i) (omega arith)) z where
+      front : {A : Type 0} (xs ys : List A) (i : ℕ) (d : A) → i < length xs → get_or (xs ++ ys) i d ≡ get_or xs i d
+      front [] ys i d l = absurd (omega arith)
+      front (x ∷ xs) ys zero d l = refl
+      front (x ∷ xs) ys (suc i) d l = front xs ys i d (omega arith)
+
 -- beyond its end
 pub past : {A : Type 0} (xs : List A) (i : ℕ) (d : A) → length xs ≤ i → get_or xs i d ≡ d
 past [] i d l = refl

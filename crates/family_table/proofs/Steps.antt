@@ -1,6 +1,6 @@
 -- A step on one cell of a family keeps the family's rule: the cell's own step keeps its rule, at a time later than all before, and each
 -- other cell is as it was, at a later time.
-use Rattle.std.proofs.Common.{◌≡◌, ◌≢◌, ℕ, ◌+◌, ◌<◌, ◌≤◌, List, [], ◌∷◌, ◌++◌, map, length, get_or, set, refl, sym, ap, ◌∙◌, subst}
+use Rattle.std.proofs.Common.{◌≡◌, ◌≢◌, ℕ, ◌+◌, ◌*◌, ◌<◌, ◌≤◌, List, [], ◌∷◌, ◌++◌, map, length, get_or, set, refl, sym, ap, ◌∙◌, subst}
 use Rattle.std.proofs.Common.{⊎_elim, arith, le_refl, length-append, nat_eq, true, Bool, slice_get, Some, cond}
 use Rattle.std.proofs.lemmas.List.{map-append}
 use Rattle.history_core.specs.Schedules.{positions}
@@ -27,6 +27,7 @@ use Rattle.family_table.proofs.Acts.{carried_shift, valid_shift, homes_gather, h
 use Rattle.family_table.proofs.Acts.{all_avoid, proper_shift, homes_long}
 use Rattle.family_table.proofs.Held.{Effect, act_effect}
 use Rattle.family_table.proofs.Totals.{total_set, total_two}
+use Rattle.family_table.proofs.Tags.{tags_kept, behind_cells}
 
 same_number : (n : ℕ) → nat_eq n n ≡ true
 same_number n = grind (arith, nat_tests)
@@ -48,7 +49,7 @@ module _ {V : Type 0} where
 module _ {S V : Type 0} (blank : V) (l : Layout) (is : IsLayout l) where
   -- the cell after the step
   same_cell : (words : List ℕ) (homes : List (Option S)) (P : List (Process V)) (R : List (Receipt V)) (k i n who : ℕ) (u : Process V)
-      (c behind : List (ℕ × S)) (w : V) (a : Act S) → length words ≡ l.words → length homes ≡ l.slots → k < l.cells → i < l.cell_words →
+      (c behind : List (ℕ × S)) (w : V) (a : Act S) → l.words ≤ length words → length homes ≡ l.slots → k < l.cells → i < l.cell_words →
       who < length P → of_cell blank k u.parts ≡ w → Inside l.cell_slots c → Proper c a →
       Valid (gather (l.slot k) l.cell_slots none homes) c a →
       cell blank l k (set words (l.word k i) n) (homes_after homes (shift (l.slot k) c ++ behind) (shift_act (l.slot k) a)) (set P who u) R
@@ -135,7 +136,7 @@ module _ {S V : Type 0} (blank : V) (l : Layout) (is : IsLayout l) where
         let effect : Effect s.homes homes' v.held u.held =
         subst (λ zs. Effect s.homes homes' zs (held_slots carried)) (sym held) (act_effect place s.homes before c behind a x.2 valid) in
         let known : v.clock ≤ r.now = r.clocks who v there in
-        let lw : length s.words ≡ l.words = r.sized.0 in
+        let lw : length s.words ≡ l.words + 8 * n = r.sized.0 in
         let lh : length s.homes ≡ l.slots = r.sized.1 in
         let many : length r.processes ≡ n = r.many in
         let made' : u.times ≡ positions 1 who (r.steps ++ who ∷ []) =
@@ -158,7 +159,8 @@ module _ {S V : Type 0} (blank : V) (l : Layout) (is : IsLayout l) where
           sized = (set_long s.words (l.word k i) m ∙ r.sized.0, homes_long s.homes rest sa ∙ r.sized.1);
           cells = λ j lj. ⊎_elim
               (λ (e : j ≡ k). subst (λ z. Rule t (cell blank l z (set s.words (l.word k i) m) homes' P' r.receipts)) (sym e)
-              (subst (Rule t) (sym (same_cell s.words s.homes r.processes r.receipts k i m who u c behind w a lw lh lk li inside_list own
+              (subst (Rule t) (sym (same_cell s.words s.homes r.processes r.receipts k i m who u c behind w a (omega arith) lh lk li
+              inside_list own
               inside x.2 x.3)) kept))
               (λ (ne : j ≢ k). subst (Rule t) (sym (other_cell s.words s.homes r.processes r.receipts k j i m who v u c behind a ne li there
               (get_set_else v.parts k j w blank ne) inside x.2 x.3)) (later r.now t (cell blank l j s.words s.homes r.processes r.receipts)
@@ -223,6 +225,8 @@ module _ {S V : Type 0} (blank : V) (l : Layout) (is : IsLayout l) where
               let most : total (holders z) s.views ≤ 1 = r.once z in
               let g : total (holders z) (set s.views id (Has (u ∷ []))) ≤ 1 = omega arith in
               g;
+          tags = tags_kept l r.now t s.words (set s.words (l.word k i) m) r.processes who v u (omega arith) there refl refl
+              (λ j lj. behind_cells is k i j s.words m lk li) r.tags;
           planned = λ j z e. ⊎_elim
               (λ (b : (j ≡ who) × (u ≡ z)). subst (λ (q : ℕ × Process V). Plan q.0 q.1) (λ h. (sym b.0 h, b.1 h))
               (goes t (get_or mine.words i 0) w (carried_after c a) (let d : v.clock < t = omega arith in d) x.5 (r.planned who v there)))

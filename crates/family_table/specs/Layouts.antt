@@ -1,6 +1,6 @@
 -- Cells in one table: where the words and slots of each lie, and what an act on a cell's slots is in
 -- the table (this project's own).
-use Rattle.std.specs.Prelude.{◌≡◌, ◌⊎◌, ℕ, zero, suc, ◌<◌, List, [], ◌∷◌, map, slice_index_or}
+use Rattle.std.specs.Prelude.{◌≡◌, ◌⊎◌, ℕ, zero, suc, ◌+◌, ◌*◌, ◌<◌, List, [], ◌∷◌, map, slice_index_or}
 use mathlib.Core.Option.{Option, some, none}
 use lib.ListN.{get_elem?}
 use Rattle.atomic_table.specs.Table.{Act, keeps, takes, gives, chain}
@@ -21,6 +21,10 @@ pub record IsLayout (l : Layout) : Type 0 where
   pub slot_in : (k i : ℕ) → k < l.cells → i < l.cell_slots → l.slot k i < l.slots
   pub word_apart : (k i j h : ℕ) → i < l.cell_words → h < l.cell_words → l.word k i ≡ l.word j h → (k ≡ j) × (i ≡ h)
   pub slot_apart : (k i j h : ℕ) → i < l.cell_slots → h < l.cell_slots → l.slot k i ≡ l.slot j h → (k ≡ j) × (i ≡ h)
+
+-- the word in which process i says its tags, on a line of its own behind the words of all cells
+abbrev pub said_at : Layout → ℕ → ℕ
+said_at l i = l.words + 8 * i
 
 -- the first n elements by their places
 abbrev pub gather : {A : Type 0} → (ℕ → ℕ) → ℕ → A → List A → List A

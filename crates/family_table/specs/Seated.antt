@@ -8,6 +8,8 @@ use Rattle.family_table.specs.declared.notes.View.TheVariants.{Has}
 use Rattle.family_table.specs.declared.processes.ProcessSeat.{ProcessSeat}
 use Rattle.family_table.specs.declared.processes.ProcessReceipt.{ProcessReceipt}
 use Rattle.family_table.specs.declared.table.FamilySeat.{FamilySeat}
+use Rattle.cell_contract.specs.declared.said.Said.{Said}
+use Rattle.cell_contract.specs.declared.said.Found.{Found}
 use Rattle.family_table.specs.Views.{process_of, receipt_in}
 
 module _ {T V X : Type 0} where
@@ -23,6 +25,12 @@ module _ {T V X : Type 0} where
 
   abbrev pub times_of : ProcessSeat T V X → List ℕ
   times_of s = (known_by s).times
+
+  abbrev pub said_of : ProcessSeat T V X → List Said
+  said_of s = (known_by s).said
+
+  abbrev pub found_of : ProcessSeat T V X → List Found
+  found_of s = (known_by s).found
 
   -- among these processes are those of all of these seats
   abbrev pub AreAmong : List (Process V) → List (ProcessSeat T V X) → Type 0

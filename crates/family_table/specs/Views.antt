@@ -8,7 +8,7 @@ use Rattle.family_table.specs.declared.notes.View.TheVariants.{Told, Has}
 module _ {V : Type 0} where
   -- the process that a view has, and the receipt
   abbrev pub no_process : Process V
-  no_process = record { who = 0; clock = 0; times = []; held = []; parts = [] }
+  no_process = record { who = 0; clock = 0; times = []; held = []; parts = []; said = []; found = [] }
 
   abbrev pub first_or : Process V → List (Process V) → Process V
   first_or d [] = d

@@ -12,5 +12,6 @@ pub trait EndsWithSome<T: Planned>: Family<T> {
         requires some { 0 < vec_len seats }
         requires seats { Each (λ i s. Self.is_seat self s) seats.items }
         ensures so_far { AreSoFarWith (T.plan (Self.opening self) Self.width (Self.processes self) (Self.limit self))
-            (Self.opening self) (Self.processes self) Self.who Self.times Self.writes Self.reads seats.items };
+            (Self.opening self) (Self.processes self) Self.who Self.times Self.writes Self.reads Self.said Self.found
+            seats.items };
 }

@@ -1,8 +1,8 @@
 //! What the registers of a family are: where they lie, the rule that each keeps, and what receipts tell of it.
-ghost use Rattle.std.specs.Prelude.{◌≡◌, ℕ};
+ghost use Rattle.std.specs.Prelude.{◌≡◌, ◌≤◌, ℕ};
 ghost use Rattle.atomic_table.specs.Table.{State};
 ghost use Rattle.family_table.specs.Ends.{CellEnds};
-ghost use Rattle.family_table.specs.Layouts.{Layout};
+ghost use Rattle.family_table.specs.Layouts.{Layout, IsLayout};
 ghost use Rattle.family_table.specs.Family.{FamilyRule, CellTells, CellHears, heard_by};
 ghost use Rattle.family_table.specs.declared.notes.Process.{Process};
 ghost use Rattle.family_table.specs.declared.notes.Receipt.{Receipt};
@@ -40,6 +40,11 @@ pub trait Mechanism<T, V> {
 
     // The calls of a register by what its two processes know of it.
     ghost done: { T → V → V → Type 0 };
+
+    // Each register has places of its own, and what is so up to a time is so up to a later one.
+    ghost laid: { (n : ℕ) → IsLayout (layout n) };
+
+    ghost later: { (o : T) (now t : ℕ) (s : State T V) → now ≤ t → keeps o now s → keeps o t s };
 
     ghost plain: { receipt blank ≡ blank };
 

@@ -1,17 +1,20 @@
 //! What the seats of a family know, and what its table is told once. No value of the first three types is made.
 ghost use Rattle.std.specs.Prelude.{ℕ, List, []};
 
+use cell_contract::{Found, Said};
 use std::collections::LinkedList;
 use std::marker::Brand;
 
 /// What a process knows: its number, the last time of which it knows, the times of its steps, the slots that its seat
-/// has, and what it knows of each cell.
+/// has, what it knows of each cell, the tags that it said, and those that it found others to have said.
 pub struct Process<V> {
     pub who: u64,
     pub clock: u64,
     pub times: LinkedList<u64>,
     pub held: LinkedList<u64>,
     pub parts: LinkedList<V>,
+    pub said: LinkedList<Said>,
+    pub found: LinkedList<Found>,
 }
 
 /// What a receipt tells: a time, and of each cell what its sender tells the reader.
@@ -41,6 +44,19 @@ pub trait Opening<T> {
     ghost processes: { ℕ };
 
     ghost limit: { ℕ };
+}
+
+/// What a look is for: the process that it looks at, and the tag.
+pub trait Looking {
+    ghost from: { ℕ };
+
+    ghost tag: { ℕ };
+}
+
+impl Looking for Brand {
+    ghost from = { 0 };
+
+    ghost tag = { 0 };
 }
 
 impl<T> Opening<T> for Brand {

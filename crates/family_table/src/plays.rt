@@ -1,10 +1,10 @@
 //! What a step tells that changes nothing, and what goes from seat to seat.
-ghost use Rattle.family_table.specs.Ends.{shows, shows_all, tells_and_shows};
+ghost use Rattle.family_table.specs.Ends.{looks, says, shows, shows_all, tells_and_shows};
 ghost use Rattle.family_table.specs.Seats.{all_but_first, first_of, no_process, all_of, told_by};
 ghost use Rattle.family_table.specs.Seats.{learnt_by, joined, no_one};
 
 use crate::mechanism::Mechanism;
-use crate::notes::{Opening, View};
+use crate::notes::{Looking, Opening, View};
 use atomic_table::{Join, Play, Split};
 use std::marker::PhantomData;
 
@@ -34,6 +34,22 @@ pub struct Showing<P, M, K> {
 impl<T, V, P: Play<T, View<V>>, M: Mechanism<T, V>, K: Opening<T>> Play<T, View<V>>
     for Showing<P, M, K> {
     ghost then = { tells_and_shows M.blank M.layout M.done M.plan K.first K.processes K.limit P.then };
+}
+
+/// The store of a tag in the word of its process.
+pub(crate) struct Says;
+
+impl<T, V> Play<T, View<V>> for Says {
+    ghost then = { says };
+}
+
+/// A load of the word of another process's tags.
+pub(crate) struct Looks<L> {
+    of: PhantomData<L>,
+}
+
+impl<T, V, L: Looking> Play<T, View<V>> for Looks<L> {
+    ghost then = { looks L.from L.tag };
 }
 
 /// The first process of a seat's goes to a seat of its own.

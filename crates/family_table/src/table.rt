@@ -1,28 +1,41 @@
 //! The table of a family, what goes from seat to seat, and what a seat does with its slots. The steps
 //! of a mechanism stand with it.
-ghost use Rattle.std.specs.Prelude.{◌≡◌, ℕ, ◌+◌, ◌*◌, ◌<◌, ◌≤◌, List, [], ◌∷◌, replicate, IfOk};
+ghost use Rattle.std.specs.Prelude.{◌≡◌, ◌⊎◌, true, false, ℕ, ◌+◌, ◌*◌, ◌<◌, ◌≤◌, List, [], ◌∷◌, ◌++◌};
+ghost use Rattle.std.specs.Prelude.{replicate, IfOk};
 ghost use Rattle.atomic_table.specs.Table.{opening};
 ghost use Rattle.family_table.specs.declared.notes.Process.{Process};
 ghost use Rattle.family_table.specs.declared.notes.Receipt.{Receipt};
 ghost use Rattle.family_table.specs.declared.notes.View.TheVariants.{Told, Has};
-ghost use Rattle.family_table.specs.Ends.{AllDone, AllSoFar};
-ghost use Rattle.family_table.specs.Family.{of_cell, FamilyRule};
+ghost use Rattle.family_table.specs.Ends.{AllDone, AllSoFar, Finds};
+ghost use Rattle.family_table.specs.Family.{of_cell, says_by, finds_by, FamilyRule};
 ghost use Rattle.family_table.specs.Seats.{all_but_first, all_of, first_of, no_process, told_by, learnt_by, joined};
 
 use crate::mechanism::{FamilyLaw, Mechanism};
-use crate::notes::{Opened, Opening, View};
-use crate::plays::{All, First, Gathers, Learns, Repeats, Shows, ShowsAll, Tells};
+use crate::notes::{Looking, Opened, Opening, View};
+use crate::plays::{
+    All, First, Gathers, Learns, Looks, Repeats, Says, Showing, Shows, ShowsAll, Tells,
+};
 use atomic_table::{Seat, Table};
 use cell_contract::{Sees, empty};
 use std::alloc::{AllocError, Global};
 use std::marker::Brand;
 
-/// The words and slots of all registers. Eight words that nobody stores to come first.
+/// The words and slots of all registers. Eight words that nobody stores to come first, and last a word of each process,
+/// in which it says its tags.
 #[derive(Drop)]
 pub struct Rows<T: Copy, V, M: Mechanism<T, V>> {
     pub inner: Table<T, View<V>, Opened<T>, FamilyLaw<M>, Global>,
     pub ghost there: { 0 < inner.shared.table_id.words },
     pub ghost some: { (2 ≤ inner.shared.key.processes) × (inner.shared.key.processes ≤ 16) },
+}
+
+/// The word in which process `i` says its tags, where all cells have so many words.
+#[inline]
+fn said_word(words: usize, i: usize) -> usize
+    requires { (words ≤ 4104) × (i < 16) }
+    ensures { result ≡ words + 8 * i }
+{
+    words + 8 * i
 }
 
 /// A seat at the table.
@@ -33,7 +46,8 @@ pub struct FamilySeat<T: Copy, V> {
 
 impl<T: Copy, V, M: Mechanism<T, V>> Rows<T, V, M> {
     /// A table of the registers of so many processes, which all hold this record, and a seat that has all processes. A
-    /// register takes `stride` words, which hold `word` at first. The processes' plans alone speak of the limit.
+    /// register takes `stride` words, which hold `word` at first. The processes' plans alone speak of the limit. Behind
+    /// these words each process has a line of words, the first of which has its tags, and which hold 0 at first.
     pub fn new(
         alloc: Global,
         processes: usize,
@@ -47,11 +61,12 @@ impl<T: Copy, V, M: Mechanism<T, V>> Rows<T, V, M> {
         requires small { (stride ≤ 16) × (slots ≤ 4) }
         requires starts { FamilyRule M.blank (M.layout processes) (M.keeps first)
             (M.plan first limit processes) processes
-            (opening (replicate (stride * (processes * processes) + 8) word)
+            (opening (replicate (stride * (processes * processes) + 8) word ++ replicate (8 * processes) 0)
             (replicate (slots * (processes * processes)) first) (M.first first processes)) }
         ensures key { IfOk result (λ r.
             r.0.inner.shared.key ≡ record { first = first; processes = processes; limit = limit }) }
-        ensures sized { IfOk result (λ r. r.0.inner.shared.table_id.words ≡ stride * (processes * processes) + 8) }
+        ensures sized { IfOk result (λ r.
+            r.0.inner.shared.table_id.words ≡ stride * (processes * processes) + 8 + 8 * processes) }
         ensures seat { IfOk result (λ r. (r.1.inner.table_id ≡ r.0.inner.shared.table_id)
             × (r.1.inner.me ≡ (M.first first processes, []))) }
     {
@@ -59,6 +74,9 @@ impl<T: Copy, V, M: Mechanism<T, V>> Rows<T, V, M> {
         let mut words = Vec::new(alloc);
         words
             .resize(stride * cells + 8, word)
+            .map_err(|_| AllocError)?;
+        words
+            .resize(stride * cells + 8 + 8 * processes, 0)
             .map_err(|_| AllocError)?;
         let mut records = Vec::new(alloc);
         records
@@ -229,6 +247,66 @@ impl<T: Copy, V, M: Mechanism<T, V>> Rows<T, V, M> {
             self.now.inner.shared.key.processes ps }
     {
         self.load_all::<Brand>(seat);
+    }
+
+    /// Says this tag in the word of the seat's process. All cells have so many words.
+    #[inline]
+    pub fn say(&self, seat: &mut FamilySeat<T, V>, words: usize, who: usize, tag: u64)
+        requires own { seat.old.inner.table_id ≡ self.now.inner.shared.table_id }
+        requires at { (words ≡ (M.layout self.now.inner.shared.key.processes).words) × (words ≤ 4104) × (who < 16) }
+        requires sized { self.now.inner.shared.table_id.words ≡ words + 8 * self.now.inner.shared.key.processes }
+        requires one { (v : Process V) × (seat.old.inner.me.0 ≡ Has (v ∷ [])) × (v.who ≡ who)
+            × (who < self.now.inner.shared.key.processes) }
+        requires plan { (v : Process V) → seat.old.inner.me.0 ≡ Has (v ∷ []) → M.plan self.now.inner.shared.key.first
+            self.now.inner.shared.key.limit self.now.inner.shared.key.processes v.who v →
+            M.plan self.now.inner.shared.key.first self.now.inner.shared.key.limit
+            self.now.inner.shared.key.processes v.who (says_by v tag) }
+        ensures own { (seat.new.inner.table_id ≡ seat.old.inner.table_id) × (seat.new.inner.id ≡ seat.old.inner.id) }
+        ensures said { (v : Process V) → seat.old.inner.me.0 ≡ Has (v ∷ []) →
+            seat.new.inner.me ≡ (Has (says_by v tag ∷ []), seat.old.inner.me.1) }
+    {
+        self.inner
+            .shared
+            .store::<Says>(&mut seat.inner, said_word(words, who), tag);
+    }
+
+    /// Looks whether process `from` has said this tag or a greater one, and shows what all processes have done so far.
+    /// All cells have so many words.
+    #[inline]
+    pub fn look<K: Opening<T>, L: Looking>(
+        &self,
+        seat: &mut FamilySeat<T, V>,
+        words: usize,
+        from: usize,
+        tag: u64,
+    ) -> bool
+        requires opening { (K.first ≡ self.now.inner.shared.key.first ∷ [])
+            × (K.processes ≡ self.now.inner.shared.key.processes) × (K.limit ≡ self.now.inner.shared.key.limit) }
+        requires looking { (L.from ≡ from) × (L.tag ≡ tag) }
+        requires own { seat.old.inner.table_id ≡ self.now.inner.shared.table_id }
+        requires at { (words ≡ (M.layout self.now.inner.shared.key.processes).words) × (words ≤ 4104) × (from < 16) }
+        requires sized { self.now.inner.shared.table_id.words ≡ words + 8 * self.now.inner.shared.key.processes }
+        requires other { from < self.now.inner.shared.key.processes }
+        requires one { (v : Process V) × (seat.old.inner.me.0 ≡ Has (v ∷ [])) }
+        requires plan { (v : Process V) (t : ℕ) → seat.old.inner.me.0 ≡ Has (v ∷ []) →
+            M.plan self.now.inner.shared.key.first self.now.inner.shared.key.limit
+            self.now.inner.shared.key.processes v.who v →
+            M.plan self.now.inner.shared.key.first self.now.inner.shared.key.limit
+            self.now.inner.shared.key.processes v.who (finds_by v from tag t) }
+        ensures own { (seat.new.inner.table_id ≡ seat.old.inner.table_id) × (seat.new.inner.id ≡ seat.old.inner.id) }
+        ensures found { result ≡ true → (v : Process V) → seat.old.inner.me.0 ≡ Has (v ∷ []) →
+            Finds from tag v seat.old.inner.me.1 seat.new.inner.me }
+        ensures unfound { result ≡ false → seat.new.inner.me ≡ seat.old.inner.me }
+        ensures shown { (ps : List (Process V)) → seat.new.inner.me.0 ≡ Has ps →
+            AllSoFar M.blank (M.layout self.now.inner.shared.key.processes) (M.done self.now.inner.shared.key.first)
+            (M.plan self.now.inner.shared.key.first self.now.inner.shared.key.limit self.now.inner.shared.key.processes)
+            self.now.inner.shared.key.processes ps }
+    {
+        let said = self
+            .inner
+            .shared
+            .load::<Showing<Looks<L>, M, K>>(&mut seat.inner, said_word(words, from));
+        0 < said && tag <= said
     }
 
     /// Frees the table.

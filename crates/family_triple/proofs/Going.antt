@@ -10,7 +10,7 @@ use Rattle.cell_triple.specs.declared.notes.WriterNotes.{WriterNotes}
 use Rattle.cell_triple.specs.declared.notes.ReaderNotes.{ReaderNotes}
 use Rattle.cell_triple.specs.Steps.{TripleSight, published, answered}
 use Rattle.cell_contract.specs.Accesses.{IsAccess, IsReadAccess, IsWriteAccess, KeepsEach, KeepsOthers, ReadAccesses}
-use Rattle.cell_contract.specs.Plans.{Doings, doings, MayRead, MayWrite}
+use Rattle.cell_contract.specs.Plans.{Doings, MayRead, MayWrite}
 use Rattle.cell_contract.proofs.ListLaws.{last_snoc}
 use Rattle.family_table.specs.declared.notes.Process.{Process}
 use Rattle.family_table.specs.declared.notes.View.{View}
@@ -24,9 +24,9 @@ use Rattle.family_triple.specs.declared.family.TripleFamily.{TripleFamily}
 use Rattle.family_triple.specs.Seated.{TripleSeat}
 use Rattle.family_triple.specs.Access.{HasLooked}
 use Rattle.family_triple.specs.Places.{among, triples, slot_at}
-use Rattle.family_table.specs.Seated.{known_by, number_of, clock_of, times_of}
+use Rattle.family_table.specs.Seated.{known_by, number_of, clock_of, times_of, said_of, found_of}
 use Rattle.family_triple.specs.Plans.{done_by, plan_of, HasCells, MayDecide, MayPublish, TriplePlan}
-use Rattle.family_triple.specs.Seated.{opening_of, processes_of, limit_of, writes_of, reads_of, IsSeat}
+use Rattle.family_triple.specs.Seated.{opening_of, processes_of, limit_of, writes_of, reads_of, IsSeat, doings_of}
 use Rattle.family_triple.specs.Tables.{IsRotated}
 use Rattle.family_triple.specs.Words.{writes_to, reads_from, IsAtRest, IsRow, IsColumn}
 use Rattle.family_triple.proofs.Calls.{sees_writes, sees_reads, a_write, a_read}
@@ -40,12 +40,14 @@ module _ {T : Type 0} where
     pub access : IsAccess 1 (clock_of s) (clock_of s') (times_of s) (times_of s') (writes_of s j).times (writes_of s' j).times
     pub written : IsWriteAccess (writes_of s j) (writes_of s' j) x
     pub others : KeepsOthers j (writes_of s) (writes_of s') × KeepsEach (reads_of s) (reads_of s')
+    pub tags : (said_of s' ≡ said_of s) × (found_of s' ≡ found_of s)
 
   pub record HasRead (f : TripleFamily T) (s s' : TripleSeat T) (j : ℕ) (x : T) : Type 0 where
     pub own : IsSeat f s' × (s'.who ≡ s.who)
     pub access : IsAccess 1 (clock_of s) (clock_of s') (times_of s) (times_of s') (reads_of s j).times (reads_of s' j).times
     pub answer : IsReadAccess (opening_of f) (reads_of s j) (reads_of s' j) x
     pub others : KeepsOthers j (reads_of s) (reads_of s') × KeepsEach (writes_of s) (writes_of s')
+    pub tags : (said_of s' ≡ said_of s) × (found_of s' ≡ found_of s)
 
   module _ (f : TripleFamily T) (s : TripleSeat T) (own : IsSeat f s) where
     -- the seat after a call
@@ -156,7 +158,7 @@ module _ {T : Type 0} where
     module _ (plan : T → ℕ → ℕ → ℕ → ℕ → Doings T → Type 0) (cell : ℕ) where
       pub publish_may : (x : T) → cell ≡ place s.processes s.who j →
           MayWrite (plan (opening_of f) 1 (processes_of f) (limit_of f) (number_of s)) 1 x j
-          (doings (times_of s) (writes_of s) (reads_of s)) →
+          (doings_of s) →
           MayPublish (plan_of plan f.table.rows.inner.shared.key) (known_by s) cell row_at.notes x
       publish_may x at may =
           let v : Process (TripleSight T) = known_by s in
@@ -168,7 +170,7 @@ module _ {T : Type 0} where
 
       pub decide_may : cell ≡ place s.processes j s.who →
           MayRead (plan (opening_of f) 1 (processes_of f) (limit_of f) (number_of s)) 1 j
-          (doings (times_of s) (writes_of s) (reads_of s)) →
+          (doings_of s) →
           MayDecide (plan_of plan f.table.rows.inner.shared.key) (known_by s) cell column_at.notes
       decide_may at may =
           let v : Process (TripleSight T) = known_by s in
@@ -220,6 +222,7 @@ module _ {T : Type 0} where
           access = h.0;
           written = h.1;
           others = (h.2, h.3);
+          tags = (ap (λ z. z.said) (sym is), ap (λ z. z.found) (sym is));
         }
 
     -- a whole read
@@ -269,4 +272,5 @@ module _ {T : Type 0} where
           access = r.0;
           answer = subst (λ z. IsReadAccess z (reads_of s j) (reads_of s' j) h.answer) own.opening r.1;
           others = (r.2, r.3);
+          tags = (ap (λ z. z.said) (sym is), ap (λ z. z.found) (sym is));
         }

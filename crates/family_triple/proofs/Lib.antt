@@ -10,6 +10,7 @@ pub mod Plans
 pub mod Rests
 pub mod Rounds
 pub mod Rows
+pub mod Saying
 pub mod Showing
 pub mod SoFar
 pub mod Starts

@@ -100,13 +100,8 @@ module _ {T : Type 0} (fits : T → Type 0) (rises : T → T → Type 0) where
           took = (refl, refl, d.4);
           later = a.0;
           slots = a.2;
-          view = a.1 ∙ ap (λ ps. Has (record {
-            who = v.who;
-            clock = d.1;
-            times = v.times ++ d.1 ∷ [];
-            held = held;
-            parts = ps;
-          } ∷ [])) (set_twice v.parts k (Reader q) w);
+          view = a.1 ∙ ap (λ ps. Has (record v { clock = d.1; times = v.times ++ d.1 ∷ []; held = held; parts = ps } ∷ []))
+              (set_twice v.parts k (Reader q) w);
           may = d.7;
           again = λ unmarked. absurd (marked_is unmarked);
           did = d.8;

@@ -1,5 +1,6 @@
 -- The seats of a new family, one for each process, and the one that has all of them at the end.
-use Rattle.std.proofs.Common.{◌≡◌, ℕ, ◌+◌, ◌-◌, ◌*◌, ◌<◌, ◌≤◌, List, [], ◌∷◌, ◌++◌, length, slice_get, Some, get_or, replicate, sym, ap}
+use Rattle.std.proofs.Common.{◌≡◌, ℕ, ◌+◌, ◌-◌, ◌*◌, ◌<◌, ◌≤◌, List, [], ◌∷◌, ◌++◌, length, slice_get, Some, get_or}
+use Rattle.std.proofs.Common.{replicate, sym, ap}
 use Rattle.std.proofs.Common.{◌∙◌, subst, arith}
 use Rattle.std.proofs.lemmas.List.{length_push}
 use mathlib.Core.Option.{some}
@@ -9,7 +10,7 @@ use Rattle.history_core.specs.Schedules.{positions}
 use Rattle.cell_contract.specs.declared.sight.Sight.TheVariants.{Spent, Writer, Reader}
 use Rattle.cell_triple.specs.Steps.{TripleSight}
 use Rattle.cell_contract.specs.Accesses.{WriteAccesses, ReadAccesses, IsUnused}
-use Rattle.cell_contract.specs.Ends.{Each, EachTwo, IsSchedule, IsAtomicCell}
+use Rattle.cell_contract.specs.Ends.{Each, EachTwo, FindWhatWasSaid, IsSchedule, IsAtomicCell}
 use Rattle.family_table.specs.declared.notes.Process.{Process}
 use Rattle.family_table.specs.declared.notes.View.TheVariants.{Has}
 use Rattle.family_table.specs.Family.{of_cell}
@@ -18,15 +19,17 @@ use Rattle.family_table.specs.Places.{place}
 use Rattle.family_table.specs.Seats.{all_but_first}
 use Rattle.family_table.specs.Views.{process_of}
 use Rattle.family_table.proofs.Gathering.{each_more}
+use Rattle.family_table.proofs.Looked.{all_found}
 use Rattle.family_table.proofs.Firsts.{upto_next}
 use Rattle.family_table.proofs.Places.{place_in}
 use Rattle.family_triple.specs.declared.family.TripleFamily.{TripleFamily}
 use Rattle.family_triple.specs.Seated.{TripleSeat}
 use Rattle.family_table.specs.declared.table.FamilySeat.{FamilySeat}
 use Rattle.family_triple.specs.Access.{IsReady}
-use Rattle.family_table.specs.Seated.{known_by, number_of, clock_of, times_of}
+use Rattle.family_table.specs.Seated.{known_by, number_of, clock_of, times_of, said_of, found_of}
 use Rattle.family_triple.specs.Seated.{opening_of, processes_of, writes_of, reads_of, IsSeat, IsFirst}
-use Rattle.family_triple.specs.Tables.{IsEnded}
+use Rattle.family_triple.specs.Places.{triples}
+use Rattle.family_triple.specs.Tables.{Done, IsEnded}
 use Rattle.family_triple.specs.Triples.{first_process}
 use Rattle.family_triple.specs.Words.{writes_to, reads_from, IsAtRest}
 use Rattle.family_triple.proofs.Calls.{sees_writes, sees_reads}
@@ -55,7 +58,9 @@ module _ {T : Type 0} where
       let now = next_me id n o who rest seats l h in
       let is : ready.process ≡ known_by s = sym (ap process_of ready.one) in
       let all : Process (TripleSight T) → Type 0 = λ z. (s.seat.inner.me.0 ≡ Has (z ∷ [])) × (z.who ≡ who)
-      × IsAtRest o n z s.stored.fills s.stored.reads s.seat.inner.me.1 × IsUnused z.clock z.times (writes_to o n z) (reads_from o n z) in
+      × IsAtRest o n z s.stored.fills s.stored.reads s.seat.inner.me.1 × IsUnused z.clock z.times (writes_to o n z) (reads_from o n z)
+      z.said
+      z.found in
       let k = subst all is (
         ready.one,
         ready.number,
@@ -82,7 +87,7 @@ module _ {T : Type 0} where
   -- such a seat is one of the family's, and unused
   pub first_seat : (f : TripleFamily T) (n : ℕ) (o : T) (i : ℕ) (s : TripleSeat T) → opening_of f ≡ o → processes_of f ≡ n →
       IsFirst f.table.rows.inner.shared.table_id n o i s →
-      (IsSeat f s × (number_of s ≡ i)) × IsUnused (clock_of s) (times_of s) (writes_of s) (reads_of s)
+      (IsSeat f s × (number_of s ≡ i)) × IsUnused (clock_of s) (times_of s) (writes_of s) (reads_of s) (said_of s) (found_of s)
   first_seat f n o i s opens many h = (
     (
       record {
@@ -96,7 +101,8 @@ module _ {T : Type 0} where
       },
       h.who,
     ),
-    subst (λ (z : T × ℕ). IsUnused (clock_of s) (times_of s) (writes_to z.0 z.1 (known_by s)) (reads_from z.0 z.1 (known_by s)))
+    subst (λ (z : T × ℕ). IsUnused (clock_of s) (times_of s) (writes_to z.0 z.1 (known_by s)) (reads_from z.0 z.1 (known_by s)) (said_of s)
+        (found_of s))
         (λ k. (sym h.opening k, sym h.processes k)) h.unused,
   )
 
@@ -112,6 +118,10 @@ module _ {T : Type 0} where
       λ i s e. let t = there i s e in let own = each i s e in
           ended.made t.0 (known_by s) t.1 ∙ ap (λ z. positions 1 z ended.steps) (own.0.who ∙ own.1),
     )
+
+    pub all_say : length seats ≡ processes_of f → FindWhatWasSaid said_of found_of seats
+    all_say many = all_found Spent (triples (processes_of f)) (Done (opening_of f)) (processes_of f) ps ended seats many
+        (λ i s e. (each i s e).0.who ∙ (each i s e).1) there
 
     pub all_atomic : EachTwo (λ i j s t. IsAtomicCell (opening_of f) (writes_of s j) (reads_of t i)) seats
     all_atomic i j s t at_s at_t ne =

@@ -1,18 +1,9 @@
--- Each triple buffer has places of its own.
+-- The others of a process by their numbers among these.
 use Rattle.std.proofs.Common.{◌≡◌, ◌≢◌, ℕ, ◌+◌, ◌-◌, ◌*◌, ◌<◌, ◌≤◌, nat_lt, cond, true, false, ap, ◌∙◌, ⊎_elim, arith}
 use Rattle.std.proofs.lemmas.Bool.Decides.{nat_tests}
 use Rattle.std.proofs.lemmas.Bool.{cases_lt}
-use Rattle.family_table.specs.Layouts.{IsLayout}
 use Rattle.history_core.specs.Others.{other}
-use Rattle.family_triple.specs.Places.{among, triples, word_at, slot_at}
-
-pub is_layout : (n : ℕ) → IsLayout (triples n)
-is_layout n = record {
-  word_in = λ k i lk li. let z : word_at k i < 8 * (n * n) + 8 = omega arith in z;
-  slot_in = λ k i lk li. let z : slot_at k i < 3 * (n * n) = omega arith in z;
-  word_apart = λ k i j h li lh e. let f : 8 * k + 8 + i ≡ 8 * j + 8 + h = e in (omega arith, omega arith);
-  slot_apart = λ k i j h li lh e. let f : 3 * k + i ≡ 3 * j + h = e in (omega arith, omega arith);
-}
+use Rattle.family_triple.specs.Places.{among}
 
 below : (a b : ℕ) → a < b → nat_lt a b ≡ true
 below a b l = grind (arith, nat_tests)
@@ -29,7 +20,6 @@ among_more i j l = ap (λ b. cond {A = ℕ} b j (j - 1)) (not_below j i l)
 more : (i j : ℕ) → i ≤ j → j ≢ i → i < j
 more i j l ne = ⊎_elim (λ (h : i < j). h) (λ (h : j ≤ i). absurd (ne (omega arith))) (cases_lt i j)
 
--- the others of a process by their numbers among these
 pub among_small : (n i j : ℕ) → i < n → j < n → j ≢ i → among i j < n - 1
 among_small n i j li lj ne = ⊎_elim (λ (l : j < i). let e = among_less i j l in let z : among i j < n - 1 = omega arith in z)
     (λ (l : i ≤ j). let e = among_more i j l in let m = more i j l ne in let z : among i j < n - 1 = omega arith in z) (cases_lt j i)

@@ -38,6 +38,8 @@ module _ {T : Type 0} where
       cells_kept n i v (alters v k w held) (kind_set v.parts k w has same) h.0,
       subst plan (λ z. record {
         times = v.times;
+        said = v.said;
+        found = v.found;
         writes = λ j. sym (seen_same Spent (seen_to o) v.who k v.parts w (place n v.who j) j (λ nw. inr to) has) z;
         reads = λ j. sym (seen_same Spent (seen_from o) v.who k v.parts w (place n j v.who) j (λ nw. inr from) has) z;
       }) h.1,
@@ -83,6 +85,7 @@ module _ {T : Type 0} where
                 (λ nw. inl (row_apart n v.who i j nw ne di)) has,
             λ i. seen_same Spent (seen_from o) v.who k v.parts (Writer q) (place n i v.who) i (λ nw. inr (ap (seen_from o) (sym is))) has,
           );
+          tags = (refl, refl);
         }
 
     -- and the step that decides a read from it
@@ -112,6 +115,7 @@ module _ {T : Type 0} where
                 (λ nw. inl (column_apart n i j v.who lj lw ne nw di)) has,
             λ i. seen_same Spent (seen_to o) v.who k v.parts (Reader q) (place n v.who i) i (λ nw. inr (ap (seen_to o) (sym is))) has,
           );
+          tags = (refl, refl);
         }
 
   module _ (plan : T → ℕ → ℕ → ℕ → ℕ → Doings T → Type 0) (o : T) (limit n : ℕ) (v : Process (TripleSight T)) (j : ℕ) (lw : v.who < n)
@@ -148,5 +152,5 @@ module _ {T : Type 0} where
       (held : List ℕ) → MayDecide Plan v k g → MayDecide Plan (alters v k (Reader (asked_by g m)) held) k (asked_by g m)
   decide_again Plan v k m g slots may h x t number writes held answers times lt =
       let w : TripleSight T = Reader (answered h x t number writes) in
-      subst (λ ps. Plan v.who (record { who = v.who; clock = t; times = v.times ++ t ∷ []; held = held; parts = ps }))
+      subst (λ ps. Plan v.who (record v { clock = t; times = v.times ++ t ∷ []; held = held; parts = ps }))
       (sym (set_twice v.parts k (Reader (asked_by g m)) w)) (may h x t number writes held answers times lt)

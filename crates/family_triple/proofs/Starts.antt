@@ -13,9 +13,9 @@ use Rattle.family_table.specs.Layouts.{gather}
 use Rattle.family_table.specs.Family.{of_cell}
 use Rattle.family_table.specs.Places.{place, reader_of, upto, writer_of}
 use Rattle.family_table.proofs.Places.{place_in, writer_there, reader_there}
-use Rattle.family_table.proofs.Slices.{gather_replicate, within}
+use Rattle.family_table.proofs.Slices.{gather_front, gather_replicate, within}
 use Rattle.family_table.proofs.Seats.{family_starts}
-use Rattle.family_table.proofs.Firsts.{upto_long, upto_at, upto_get, map_at, map_replicate, replicate_long}
+use Rattle.family_table.proofs.Firsts.{upto_long, upto_at, upto_get, map_at, map_replicate, replicate_long, unsaid, words_long}
 use Rattle.family_triple.specs.Keeping.{written_by, answered_by}
 use Rattle.family_triple.specs.Places.{triples}
 use Rattle.family_triple.specs.Plans.{done_by, IsPlanned, TriplePlan}
@@ -23,7 +23,7 @@ use Rattle.family_triple.specs.Words.{writes_by, reads_by}
 use Rattle.family_triple.proofs.Calls.{not_same, yes_same}
 use Rattle.family_triple.proofs.Taking.{plain_first}
 use Rattle.family_triple.specs.Triples.{first_part, first_process, first_view, CellRule, TripleFamily}
-use Rattle.family_triple.proofs.Places.{is_layout}
+use Rattle.family_triple.specs.Cells.{is_layout}
 use Rattle.family_triple.specs.Cells.{cell_starts}
 
 module _ {T : Type 0} (o : T) (n i : ℕ) (li : i < n) where
@@ -59,6 +59,7 @@ module _ {T : Type 0} (o : T) (n i : ℕ) (li : i < n) where
         record { row = λ j lj ne. (first_writer o, row_first j lj ne); column = λ j lj ne. (first_reader o, column_first j lj ne) },
         planned (done_by o n p) (record {
           times = refl;
+          tags = (refl, refl);
           writes = λ j. ap written_by (nothing (nat_eq j i) (of_cell Spent (place n i j) p.parts)
               (λ z. writes_by (writer_or (first_writer o) z) ≡ no_writes) refl (plain_first o n i (place n i j)).0);
           reads = λ j. ap answered_by (nothing (nat_eq j i) (of_cell Spent (place n j i) p.parts)
@@ -73,19 +74,21 @@ module _ {T : Type 0} (fits : T → Type 0) (rises : T → T → Type 0) (o : T)
   pub triples_start : (plan : T → ℕ → ℕ → ℕ → ℕ → Doings T → Type 0) (limit : ℕ) → fits o →
       ((i : ℕ) (done : Doings T) → i < n → HasNoSteps done → plan o 1 n limit i done) →
       TripleFamily fits rises o n (TriplePlan plan o limit n)
-      (opening (replicate (8 * (n * n) + 8) 1) (replicate (3 * (n * n)) o) (first_view o n))
+      (opening (replicate (8 * (n * n) + 8) 1 ++ replicate (8 * n) 0) (replicate (3 * (n * n)) o) (first_view o n))
   triples_start plan limit f planned =
       let cells : ℕ = n * n in
       let ps : List (Process V) = upto (first_process o n) 0 n in
-      let ws : List ℕ = replicate (8 * cells + 8) 1 in
+      let front : List ℕ = replicate (8 * cells + 8) 1 in
+      let ws : List ℕ = front ++ replicate (8 * n) 0 in
       let hs : List T = replicate (3 * cells) o in
       family_starts Spent (triples n) (CellRule fits rises o) (TriplePlan plan o limit n) n ws hs ps
-      (replicate_long (8 * cells + 8) 1) (replicate_long (3 * cells) o)
+      (words_long (8 * cells + 8) 1 n) (unsaid (8 * cells + 8) 1 n) (replicate_long (3 * cells) o)
       (upto_long (first_process o n) 0 n)
       (λ i p e.
       let is : p ≡ first_process o n i =
       upto_at (first_process o n) 0 n i p e ∙ ap (first_process o n) (let z : 0 + i ≡ i = omega arith in z) in
-      subst (λ (q : Process V). (q.who ≡ i) × (q.clock ≡ 0) × (q.times ≡ []) × (q.held ≡ [])) (sym is) (refl, refl, refl, refl))
+      subst (λ (q : Process V). (q.who ≡ i) × (q.clock ≡ 0) × (q.times ≡ []) × (q.held ≡ []) × (q.said ≡ []) × (q.found ≡ []))
+      (sym is) (refl, refl, refl, refl, refl, refl))
       (λ i p e.
       let is : p ≡ first_process o n i =
       upto_at (first_process o n) 0 n i p e ∙ ap (first_process o n) (let z : 0 + i ≡ i = omega arith in z) in
@@ -99,7 +102,10 @@ module _ {T : Type 0} (fits : T → Type 0) (rises : T → T → Type 0) (o : T)
       ap (gather ((triples n).slot k) 3 none) (map_replicate some (3 * cells) o)
       ∙ gather_replicate ((triples n).slot k) 3 none (3 * cells) (some o) (λ i li. (is_layout n).slot_in k i lk li) in
       let words : gather ((triples n).word k) 1 0 ws ≡ 1 ∷ [] =
-      gather_replicate ((triples n).word k) 1 0 (8 * cells + 8) 1 (λ i li. (is_layout n).word_in k i lk li) in
+      gather_front ((triples n).word k) 1 0 front (replicate (8 * n) 0)
+      (λ i li. let low = (is_layout n).word_in k i lk li in
+      let long : length front ≡ 8 * cells + 8 = replicate_long (8 * cells + 8) 1 in omega arith)
+      ∙ gather_replicate ((triples n).word k) 1 0 (8 * cells + 8) 1 (λ i li. (is_layout n).word_in k i lk li) in
       let views : map G ps ++ [] ≡ map G ps = append-nil (map G ps) in
       subst (CellRule fits rises o 0) (λ z. record { words = sym words z; homes = sym homes z; views = sym views z })
       (cell_starts fits rises o n k (map G ps) f

@@ -1,6 +1,6 @@
 -- A step on one cell of a family keeps the family's rule, with acts in turn on the slots of its seat: at a time of its own in the schedule,
 -- or outside the schedule.
-use Rattle.std.proofs.Common.{◌≡◌, ◌≢◌, ℕ, ◌+◌, ◌<◌, ◌≤◌, List, [], ◌∷◌, ◌++◌, map, length, set, refl, sym, ap, ◌∙◌, subst}
+use Rattle.std.proofs.Common.{◌≡◌, ◌≢◌, ℕ, ◌+◌, ◌*◌, ◌<◌, ◌≤◌, List, [], ◌∷◌, ◌++◌, map, length, set, refl, sym, ap, ◌∙◌, subst}
 use Rattle.std.proofs.Common.{⊎_elim, arith, le_refl, le_trans, length-append, slice_get, Some}
 use Rattle.std.proofs.lemmas.Bool.{cases_eq}
 use mathlib.Core.Option.{some, none, Option}
@@ -20,6 +20,7 @@ use Rattle.family_table.specs.Layouts.{Layout, IsLayout, gather, shift, shift_ac
 use Rattle.family_table.specs.Family.{total, of_cell, knows, cell, holders, Shows, FamilyRule, StepTells}
 use Rattle.family_table.proofs.Slices.{gather_set, gather_apart, get_set_here, get_set_else, set_long, map_set, map_same, set_front, within}
 use Rattle.family_table.proofs.Steps.{count_of, shows_set}
+use Rattle.family_table.proofs.Tags.{tags_kept, behind_cells}
 use Rattle.family_table.proofs.Totals.{total_set, total_two}
 use Rattle.family_triple.specs.Steps.{goes_on, alters}
 use Rattle.family_triple.specs.Tables.{IsRotated}
@@ -48,7 +49,7 @@ TellsBeside {S} {V} slot k v behind then m = (w : V) × (c : List (ℕ × S)) ×
 module _ {S V : Type 0} (blank : V) (l : Layout) (is : IsLayout l) where
   -- the cell after the step, and another cell
   same_cell : (words : List ℕ) (homes : List (Option S)) (P : List (Process V)) (R : List (Receipt V)) (k i n who : ℕ) (u : Process V)
-      (c behind : List (ℕ × S)) (w : V) (a : Act S) → length words ≡ l.words → length homes ≡ l.slots → k < l.cells → i < l.cell_words →
+      (c behind : List (ℕ × S)) (w : V) (a : Act S) → l.words ≤ length words → length homes ≡ l.slots → k < l.cells → i < l.cell_words →
       who < length P → of_cell blank k u.parts ≡ w → Inside l.cell_slots c → ProperAll c a →
       Valid (gather (l.slot k) l.cell_slots none homes) c a →
       cell blank l k (set words (l.word k i) n) (homes_after homes (shift (l.slot k) c ++ behind) (shift_act (l.slot k) a)) (set P who u) R
@@ -109,7 +110,7 @@ module _ {S V : Type 0} (blank : V) (l : Layout) (is : IsLayout l) where
         let sa : Act S = shift_act place a in
         let there : get_elem? r.processes who ≡ some v = (r.shows id (Has (v ∷ [])) at).0 in
         let inside_list : who < length r.processes = within r.processes who v there in
-        let lw : length s.words ≡ l.words = r.sized.0 in
+        let lw : length s.words ≡ l.words + 8 * n = r.sized.0 in
         let lh : length s.homes ≡ l.slots = r.sized.1 in
         let slots_at : (j : ℕ) → j < l.cell_slots → place j < length s.homes = λ j lj. let b = is.slot_in k j lk lj in omega arith in
         let valid : Valid s.homes cs sa =
@@ -137,7 +138,8 @@ module _ {S V : Type 0} (blank : V) (l : Layout) (is : IsLayout l) where
             sized = (set_long s.words (l.word k i) m ∙ r.sized.0, homes_long s.homes cs sa ∙ r.sized.1);
             cells = λ j lj. ⊎_elim
                 (λ (e : j ≡ k). subst (λ z. Rule t (cell blank l z (set s.words (l.word k i) m) homes' P' r.receipts)) (sym e)
-                (subst (Rule t) (sym (same_cell s.words s.homes r.processes r.receipts k i m who u c behind w a lw lh lk li inside_list own
+                (subst (Rule t) (sym (same_cell s.words s.homes r.processes r.receipts k i m who u c behind w a (omega arith) lh lk li
+                inside_list own
                 inside proper fine)) rule))
                 (λ (ne : j ≢ k). subst (Rule t)
                 (sym (other_cell s.words s.homes r.processes r.receipts k j i m who v u c behind a lh lk ne li there
@@ -191,6 +193,8 @@ module _ {S V : Type 0} (blank : V) (l : Layout) (is : IsLayout l) where
                 let most : total (holders z) s.views ≤ 1 = r.once z in
                 let g : total (holders z) (set s.views id (Has (u ∷ []))) ≤ 1 = omega arith in
                 g;
+            tags = tags_kept l r.now t s.words (set s.words (l.word k i) m) r.processes who v u on there refl refl
+                (λ j lj. behind_cells is k i j s.words m lk li) r.tags;
             planned = λ j z e. ⊎_elim
                 (λ (b : (j ≡ who) × (u ≡ z)). subst (λ (q : ℕ × Process V). Plan q.0 q.1) (λ h. (sym b.0 h, b.1 h)) plan)
                 (λ (b : (j ≢ who) × (get_elem? r.processes j ≡ some z)). r.planned j z b.1)

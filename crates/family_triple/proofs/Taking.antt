@@ -138,7 +138,7 @@ module _ {T : Type 0} (o : T) (n who : ℕ) where
     pub v : Process (TripleSight T)
     pub one : me.0 ≡ Has (v ∷ [])
     pub number : v.who ≡ who
-    pub fresh : (v.clock ≡ 0) × (v.times ≡ [])
+    pub fresh : (v.clock ≡ 0) × (v.times ≡ []) × (v.said ≡ []) × (v.found ≡ [])
     pub long : length v.parts ≡ n * n
     pub held : IsRotated v.held (held_slots me.1)
     pub many : length me.1 ≡ rows + columns
@@ -180,7 +180,7 @@ module _ {T : Type 0} (o : T) (n who : ℕ) where
     v = first_process o n who;
     one = refl;
     number = refl;
-    fresh = (refl, refl);
+    fresh = (refl, refl, refl, refl);
     long = upto_long (first_part o n who) 0 (n * n);
     held = ([], [], refl, refl);
     many = refl;
@@ -333,6 +333,8 @@ module _ {T : Type 0} (o : T) (n who : ℕ) where
       λ j. blank (nat_eq j h.v.who) (of_cell Spent (place n j h.v.who) h.v.parts)
           (λ z. reads_by (reader_or (first_reader o) z) ≡ no_reads) refl
           (h.plain (place n j h.v.who)).1,
+      h.fresh.2,
+      h.fresh.3,
     );
   } where
     blank : (b : Bool) (x : TripleSight T) (P : TripleSight T → Type 0) → P Spent → P x → P (cond b Spent x)

@@ -28,7 +28,7 @@ use Rattle.family_triple.specs.Plans.{MayPublish, MayDecide}
 use Rattle.family_triple.specs.Triples.{CellRule, TripleFamily}
 use Rattle.family_triple.specs.Steps.{alters, After, Beside, put_takes, get_takes, publishes, looks, fetches}
 use Rattle.family_triple.specs.Tables.{IsRotated}
-use Rattle.family_triple.proofs.Places.{is_layout}
+use Rattle.family_triple.specs.Cells.{is_layout}
 use Rattle.family_triple.proofs.Steps.{Outcome, Allowed, TellsBeside, steps_at, steps_beside}
 
 has_one : {V : Type 0} (v u : Process V) → Has (v ∷ []) ≡ Has (u ∷ []) → v ≡ u

@@ -55,4 +55,5 @@ module _ {T : Type 0} where
     pub rest : (fills reads : List ℕ) → (length fills ≡ 16) → (length reads ≡ 16) →
         ((j : ℕ) → j < n → slice_index_or fills j 0 ≡ 0) → ((j : ℕ) → j < n → slice_index_or reads j 0 ≡ 2) →
         IsAtRest o n process fills reads me.1
-    pub unused : IsUnused process.clock process.times (writes_to o n process) (reads_from o n process)
+    pub unused : IsUnused process.clock process.times (writes_to o n process) (reads_from o n process) process.said
+        process.found

@@ -1,6 +1,7 @@
--- A triple buffer of a family: at the start two processes have its notes; a process tells a receipt and learns one.
-use Rattle.std.proofs.Common.{◌≡◌, ℕ, Bool, true, false, nat_eq, cond, List, [], ◌∷◌, ◌++◌, set}
-use Rattle.std.proofs.Common.{refl, sym, subst, arith, ⊎_elim}
+-- A triple buffer of a family: it has places of its own; at the start two processes have its notes; a process tells a
+-- receipt and learns one.
+use Rattle.std.proofs.Common.{◌≡◌, ℕ, ◌+◌, ◌*◌, ◌<◌, ◌≤◌, Bool, true, false, nat_eq, cond, List, [], ◌∷◌, ◌++◌, set}
+use Rattle.std.proofs.Common.{refl, sym, subst, arith, le_trans, ⊎_elim}
 use Rattle.std.proofs.lemmas.Bool.Decides.{nat_tests}
 use mathlib.Core.Option.{some}
 use lib.ListN.{get_elem?}
@@ -11,8 +12,19 @@ use Rattle.cell_triple.specs.Rule.{Sees}
 use Rattle.cell_triple.specs.Steps.{TripleSight, first_writer, first_reader, receipt_for, hears_of}
 use Rattle.cell_triple.proofs.Keeps.{reseated_by, tells_by, hears_by, starts_by}
 use Rattle.family_table.specs.Family.{CellTells, CellHears}
+use Rattle.family_table.specs.Layouts.{IsLayout}
 use Rattle.family_table.specs.Places.{writer_of, reader_of}
+use Rattle.family_triple.specs.Places.{triples, word_at, slot_at}
 use Rattle.family_triple.specs.Triples.{CellRule, Any, first_part}
+
+-- each has places of its own
+pub is_layout : (n : ℕ) → IsLayout (triples n)
+is_layout n = record {
+  word_in = λ k i lk li. let z : word_at k i < 8 * (n * n) + 8 = omega arith in z;
+  slot_in = λ k i lk li. let z : slot_at k i < 3 * (n * n) = omega arith in z;
+  word_apart = λ k i j h li lh e. let f : 8 * k + 8 + i ≡ 8 * j + 8 + h = e in (omega arith, omega arith);
+  slot_apart = λ k i j h li lh e. let f : 3 * k + i ≡ 3 * j + h = e in (omega arith, omega arith);
+}
 
 module _ {T : Type 0} (fits : T → Type 0) (rises : T → T → Type 0) (o : T) where
   abbrev V : Type 0
@@ -20,6 +32,10 @@ module _ {T : Type 0} (fits : T → Type 0) (rises : T → T → Type 0) (o : T)
 
   abbrev Rule : ℕ → State T V → Type 0
   Rule = CellRule fits rises o
+
+  -- what is so up to a time is so up to a later one
+  pub cell_later : (now t : ℕ) (s : State T V) → now ≤ t → Rule now s → Rule t s
+  cell_later now t s l r = (r.0, le_trans r.1 l)
 
   -- no view changes
   stays : (now : ℕ) (s : State T V) (r : Rule now s) (id : ℕ) (v : V) → get_elem? s.views id ≡ some v →

@@ -117,7 +117,7 @@ module _ {T : Type 0} where
         (ap (seen_from o) (part at) ∙ answered_heard o (of_cell Spent at v.parts) (of_cell Spent at r.parts))
 
     same_heard : done_by o n u ≡ done_by o n v
-    same_heard = λ z. record { times = v.times; writes = λ j. writes_heard j z; reads = λ j. reads_heard j z }
+    same_heard = λ z. record (done_by o n v) { writes = λ j. writes_heard j z; reads = λ j. reads_heard j z }
 
     pub plan_heard : (plan : T → ℕ → ℕ → ℕ → ℕ → Doings T → Type 0) (limit i : ℕ) →
         TriplePlan plan o limit n i v → TriplePlan plan o limit n i u

@@ -21,7 +21,7 @@ use Rattle.family_triple.specs.Words.{writes_to, reads_from}
 module _ {T : Type 0} where
   -- what a process has done, in a family of n whose registers opened with this record
   abbrev pub done_by : T → ℕ → Process (TripleSight T) → Doings T
-  done_by o n v = doings v.times (writes_to o n v) (reads_from o n v)
+  done_by o n v = doings v.times (writes_to o n v) (reads_from o n v) v.said v.found
 
   -- process i writes its row and reads its column
   pub record HasCells (n i : ℕ) (v : Process (TripleSight T)) : Type 0 where

@@ -17,8 +17,8 @@ use Rattle.family_triple.specs.declared.family.TripleFamily.{TripleFamily}
 use Rattle.family_triple.specs.declared.family.Slots.{Slots}
 use Rattle.family_table.specs.declared.processes.ProcessSeat.{ProcessSeat}
 use Rattle.family_table.specs.declared.processes.ProcessReceipt.{ProcessReceipt}
-use Rattle.cell_contract.specs.Plans.{AreSoFar, Doings}
-use Rattle.family_table.specs.Seated.{known_by, times_of, told_in}
+use Rattle.cell_contract.specs.Plans.{AreSoFar, Doings, doings}
+use Rattle.family_table.specs.Seated.{known_by, times_of, said_of, found_of, told_in}
 use Rattle.family_triple.specs.Words.{writes_to, reads_from, IsAtRest}
 
 pub one_step : 0 < 1
@@ -50,6 +50,9 @@ module _ {T : Type 0} where
   abbrev pub reads_of : TripleSeat T → ℕ → ReadAccesses T
   reads_of s = reads_from s.spare s.processes (known_by s)
 
+  abbrev pub doings_of : TripleSeat T → Doings T
+  doings_of s = doings (times_of s) (writes_of s) (reads_of s) (said_of s) (found_of s)
+
   -- the seat has one process of the family, between two calls
   pub record IsSeat (f : TripleFamily T) (s : TripleSeat T) : Type 0 where
     pub table : s.seat.inner.table_id ≡ f.table.rows.inner.shared.table_id
@@ -62,7 +65,7 @@ module _ {T : Type 0} where
   -- what all processes have done so far, shown by a seat
   abbrev pub SeatShowsAll : (T → ℕ → ℕ → ℕ → ℕ → Doings T → Type 0) → TripleFamily T → TripleSeat T → Type 0
   SeatShowsAll plan f s = AreSoFar (plan (opening_of f) 1 (processes_of f) (limit_of f)) (opening_of f)
-      (processes_of f) s.who (times_of s) (writes_of s) (reads_of s)
+      (processes_of f) s.who (times_of s) (writes_of s) (reads_of s) (said_of s) (found_of s)
 
   -- the record that a receipt names to process j, and all that was written to that one up to then
   abbrev pub naming : TripleReceipt T → ℕ → Dated T
@@ -94,4 +97,4 @@ module _ {T : Type 0} where
     pub number : (known_by s).who ≡ i
     pub rest : IsAtRest o n (known_by s) s.stored.fills s.stored.reads s.seat.inner.me.1
     pub unused : IsUnused (known_by s).clock (known_by s).times (writes_to o n (known_by s))
-        (reads_from o n (known_by s))
+        (reads_from o n (known_by s)) (said_of s) (found_of s)

@@ -20,7 +20,7 @@ use Rattle.family_triple.specs.Places.{word_at, slot_at}
 -- step that isn't in the schedule
 abbrev pub goes_on : {V : Type 0} → Process V → ℕ → V → ℕ → List ℕ → List ℕ → Process V
 goes_on v k w clock times held =
-    record { who = v.who; clock = clock; times = times; held = held; parts = slice_set v.parts k w }
+    record v { clock = clock; times = times; held = held; parts = slice_set v.parts k w }
 
 abbrev pub alters : {V : Type 0} → Process V → ℕ → V → List ℕ → Process V
 alters v k w held = goes_on v k w v.clock v.times held

@@ -20,7 +20,15 @@ module _ {T : Type 0} where
       (cond (nat_eq i (reader_of n k)) (Reader (first_reader o)) Spent)
 
   abbrev pub first_process : T → ℕ → ℕ → Process (TripleSight T)
-  first_process o n i = record { who = i; clock = 0; times = []; held = []; parts = upto (first_part o n i) 0 (n * n) }
+  first_process o n i = record {
+    who = i;
+    clock = 0;
+    times = [];
+    held = [];
+    parts = upto (first_part o n i) 0 (n * n);
+    said = [];
+    found = [];
+  }
 
   abbrev pub first_view : T → ℕ → View (TripleSight T)
   first_view o n = Has (upto (first_process o n) 0 n)

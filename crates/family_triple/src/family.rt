@@ -1,26 +1,26 @@
 //! The family of triple buffers, and its calls.
 ghost use Rattle.std.specs.Prelude.{◌≡◌, ◌≢◌, ℕ, ◌≤◌, ◌<◌, List, [], ◌∷◌, IfOk, vec_len, vec_capacity};
 ghost use Rattle.history_core.specs.Schedules.{positions};
-ghost use Rattle.cell_contract.specs.Ends.{Each, EachTwo, IsSchedule, IsAtomicCell};
-ghost use Rattle.cell_contract.specs.Plans.{doings, MayRead};
+ghost use Rattle.cell_contract.specs.Ends.{Each, EachTwo, IsSchedule, IsAtomicCell, FindWhatWasSaid};
+ghost use Rattle.cell_contract.specs.Plans.{MayRead};
 ghost use Rattle.cell_contract.specs.Rows.{IsReadFrom};
 ghost use Rattle.family_table.specs.Left.{AreSoFarWith};
 ghost use Rattle.family_table.specs.Places.{place};
 ghost use Rattle.family_table.specs.declared.notes.View.TheVariants.{Has};
 ghost use Rattle.family_triple.specs.Access.{shown_by};
 ghost use Rattle.family_triple.specs.Triples.{first_view};
-ghost use Rattle.family_table.specs.Seated.{known_by};
+ghost use Rattle.family_table.specs.Seated.{known_by, said_of, found_of};
 ghost use Rattle.family_triple.specs.Seated.{IsFirst};
 ghost use Rattle.family_table.specs.declared.notes.Process.{Process};
 ghost use Rattle.cell_triple.specs.Steps.{TripleSight};
 ghost use Rattle.family_table.specs.Seated.{number_of, clock_of, times_of};
-ghost use Rattle.family_triple.specs.Seated.{opening_of, processes_of, limit_of, writes_of, reads_of};
+ghost use Rattle.family_triple.specs.Seated.{opening_of, processes_of, limit_of, writes_of, reads_of, doings_of};
 ghost use Rattle.family_triple.specs.Seated.{IsSeat, SeatShowsAll};
 ghost use Rattle.family_table.specs.Seated.{sender_of, time_of};
 ghost use Rattle.family_triple.specs.Seated.{named_by, carried_by, IsReceipt, one_is_few, one_step};
 
 use crate::slots::{among, newest, show_where, shows, take_slots, turn_by};
-use crate::table::{FamilySeat, FamilyTable, slot_place};
+use crate::table::{FamilySeat, FamilyTable, slot_place, words_of_cells};
 use cell_contract::{Family, Kept, Planned, Sees, SharedFamily, SoFar};
 use cell_triple::TripleSight;
 use family_table::left::EndsWithSome;
@@ -100,8 +100,8 @@ impl<T: Planned> TripleFamily<T> {
         requires at { cell ≡ place seat.old.processes from seat.old.who }
         requires plan { MayRead
             (T.plan (opening_of self.now) 1 (processes_of self.now) (limit_of self.now) (number_of seat.old)) 1 from
-            (doings (times_of seat.old) (writes_of seat.old) (reads_of seat.old)) }
-        ensures read { IsReadFrom (IsSeat self.now) number_of clock_of times_of writes_of reads_of 1
+            (doings_of seat.old) }
+        ensures read { IsReadFrom (IsSeat self.now) number_of clock_of times_of writes_of reads_of said_of found_of 1
             (opening_of self.now) T.fits T.rises (shown_by again L.sees) from
             (seat.old, seen.old) (seat.new, seen.new) }
         ensures so_far { SeatShowsAll T.plan self.now seat.new }
@@ -158,6 +158,10 @@ impl<T: Planned> Family<T> for TripleFamily<T> {
     ghost writes = { writes_of };
 
     ghost reads = { reads_of };
+
+    ghost said = { said_of };
+
+    ghost found = { found_of };
 
     ghost sender = { sender_of };
 
@@ -224,6 +228,20 @@ impl<T: Planned> Family<T> for TripleFamily<T> {
         }
     }
 
+    #[inline]
+    fn say(&self, seat: &mut TripleSeat<T>, tag: u64) {
+        let words = words_of_cells(seat.processes);
+        self.table.rows.say(&mut seat.seat, words, seat.who, tag);
+    }
+
+    #[inline]
+    fn look(&self, seat: &mut TripleSeat<T>, from: usize, tag: u64) -> bool {
+        let words = words_of_cells(seat.processes);
+        self.table
+            .rows
+            .look::<Brand, Brand>(&mut seat.seat, words, from, tag)
+    }
+
     fn tell(&self, seat: &mut TripleSeat<T>) -> TripleReceipt<T> {
         let told = self.table.rows.tell(&mut seat.seat);
         ProcessReceipt {
@@ -262,6 +280,7 @@ impl<T: Planned> Family<T> for TripleFamily<T> {
             × Each (λ i s. times_of s ≡ positions 1 i steps) seats.old.items }
         ensures atomic { EachTwo
             (λ i j s t. IsAtomicCell (opening_of self.now) (writes_of s j) (reads_of t i)) seats.old.items }
+        ensures finds { FindWhatWasSaid said_of found_of seats.old.items }
     {
         show(&self.table.rows, seats);
     }
@@ -272,6 +291,7 @@ impl<T: Planned> Family<T> for TripleFamily<T> {
             × Each (λ i s. times_of s ≡ positions 1 i steps) seats.items }
         ensures atomic { EachTwo
             (λ i j s t. IsAtomicCell (opening_of self) (writes_of s j) (reads_of t i)) seats.items }
+        ensures finds { FindWhatWasSaid said_of found_of seats.items }
     {
         let TripleFamily { table } = self;
         let FamilyTable { rows } = table;
@@ -291,7 +311,7 @@ impl<T: Planned> EndsWithSome<T> for TripleFamily<T> {
         requires some { 0 < vec_len seats }
         requires seats { Each (λ i s. IsSeat self s) seats.items }
         ensures so_far { AreSoFarWith (T.plan (opening_of self) 1 (processes_of self) (limit_of self)) (opening_of self)
-            (processes_of self) number_of times_of writes_of reads_of seats.items }
+            (processes_of self) number_of times_of writes_of reads_of said_of found_of seats.items }
     {
         let TripleFamily { table } = self;
         let FamilyTable { rows } = table;

@@ -5,7 +5,7 @@ ghost use Rattle.cell_triple.specs.Steps.{hears_of, receipt_for};
 ghost use Rattle.family_triple.specs.Places.{triples};
 ghost use Rattle.family_triple.specs.Triples.{CellRule, Any, first_view};
 ghost use Rattle.family_triple.specs.Tables.{Done};
-ghost use Rattle.family_triple.specs.Cells.{cell_tells, cell_hears, deaf, mute};
+ghost use Rattle.family_triple.specs.Cells.{is_layout, cell_later, cell_tells, cell_hears, deaf, mute};
 ghost use Rattle.family_triple.specs.Ends.{cell_ends};
 ghost use Rattle.family_triple.specs.Keeping.{plan_heard};
 ghost use Rattle.family_triple.specs.Plans.{TriplePlan};
@@ -35,6 +35,10 @@ impl<T: Planned> Mechanism<T, TripleSight<T>> for TripleMechanism {
     ghost hears = { hears_of };
 
     ghost done = { Done };
+
+    ghost laid = { is_layout };
+
+    ghost later = { λ o. cell_later T.fits T.rises o };
 
     ghost plain = { refl };
 

@@ -24,11 +24,13 @@ use family_table::plays::Showing;
 use family_table::table::Rows;
 use std::alloc::{AllocError, Global};
 
-/// The words and slots of all cells. Eight words that nobody stores to come first.
+/// The words and slots of all cells. Eight words that nobody stores to come first, and last a word of each process, in
+/// which it says its tags.
 #[derive(Drop)]
 pub struct FamilyTable<T: Planned> {
     pub(crate) rows: Rows<T, TripleSight<T>, TripleMechanism>,
-    ghost sized: { rows.inner.shared.table_id.words ≡ (triples rows.inner.shared.key.processes).words },
+    ghost sized: { rows.inner.shared.table_id.words
+        ≡ (triples rows.inner.shared.key.processes).words + 8 * rows.inner.shared.key.processes },
 }
 
 /// A seat at the table.
@@ -41,6 +43,15 @@ fn word_of(cell: usize) -> usize
     ensures { result ≡ 8 * cell + 8 }
 {
     8 * cell + 8
+}
+
+/// How many words come before those of tags.
+#[inline]
+pub(super) fn words_of_cells(processes: usize) -> usize
+    requires { processes ≤ 16 }
+    ensures { (result ≡ (triples processes).words) × (result ≤ 4104) }
+{
+    8 * (processes * processes) + 8
 }
 
 /// The place of a cell's slot.

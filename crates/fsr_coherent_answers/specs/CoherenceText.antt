@@ -9,11 +9,11 @@ use Rattle.history_coherence.specs.declared.coherence.Link.{Link}
 use Rattle.print_reasons.specs.Counts.{count_text, end_text, little_text}
 use Rattle.print_reasons.specs.Sentences.{number_text, unwritten_text}
 use Rattle.print_reasons.specs.Text.{write_lines}
-use Rattle.print_reasons.specs.Together.{shown_lines}
+use Rattle.print_evidence.specs.Together.{shown_lines}
 use Rattle.program_runs.specs.declared.fault.Answer.{Answer}
 use Rattle.program_streams.specs.Exits.{status_of as status_at}
 use Rattle.program_streams.specs.declared.exit.Exit.TheVariants.{Sound, Unsound}
-use Rattle.read_line.specs.Places.{line_at}
+use Rattle.text_lines.specs.Places.{line_at}
 use Rattle.whole_log.specs.declared.whole_log.WholeLog.{WholeLog}
 
 abbrev pub name_of : Incoherence → List ℕ

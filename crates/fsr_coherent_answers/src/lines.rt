@@ -2,8 +2,8 @@
 ghost use Rattle.std.specs.Prelude.{◌≡◌, [], map, slice_get, unwrap_or, IfOk};
 ghost use Rattle.print_reasons.specs.Text.{body_of};
 
-use read_document::split_line;
 use std::alloc::{AllocError, Global};
+use text_lines::split_line;
 
 /// The lines behind the header.
 pub(crate) fn body_lines<'a>(alloc: Global, bytes: &'a [u8]) -> Result<Vec<&'a [u8]>, AllocError>

@@ -5,15 +5,15 @@ ghost use Rattle.fsr_coherent_answers.specs.CoherenceText.{found_text, incoheren
 ghost use Rattle.fsr_coherent_answers.specs.CoherenceText.{sentence_text};
 ghost use Rattle.print_reasons.specs.Sentences.{number_text, unwritten_text};
 ghost use Rattle.print_reasons.specs.Text.{body_of, line_text, write_lines};
-ghost use Rattle.print_reasons.specs.Together.{shown_lines};
-ghost use Rattle.read_line.specs.Places.{line_at};
+ghost use Rattle.print_evidence.specs.Together.{shown_lines};
+ghost use Rattle.text_lines.specs.Places.{line_at};
 
 use crate::lines::{body_lines, line_in};
 use crate::places::places_in;
 use history_coherence::{Coherence, Incoherence};
 use print_reasons::{push_count, push_end, push_little, push_u64, push_words};
-use read_line::line_of;
 use std::alloc::{AllocError, Global};
+use text_lines::line_of;
 use whole_log::WholeLog;
 
 /// What was found, and the counts.

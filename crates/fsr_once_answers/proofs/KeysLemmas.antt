@@ -15,13 +15,13 @@ use Rattle.program_runs.specs.declared.fault.Answer.{Answer}
 use Rattle.program_runs.specs.declared.fault.Fault.{Fault}
 use Rattle.program_runs.specs.declared.show.Show.{Show}
 use Rattle.lines_log.specs.Keys.{IsKeysLog}
-use Rattle.lines_log.specs.declared.keys_log.KeyLog.{KeyLog}
-use Rattle.lines_log.specs.declared.keys_log.KeysLog.{KeysLog}
+use Rattle.kept_lines.specs.declared.keys_log.KeyLog.{KeyLog}
+use Rattle.kept_lines.specs.declared.keys_log.KeysLog.{KeysLog}
 use Rattle.fsr_once_answers.specs.KeysAnswers.{HaveOrders, IsFirstUnlawful, IsKeyJudged, IsKeysAnswer, keys_of, keys_status}
-use Rattle.fsr_once_answers.specs.KeysText.{keys_show_little, totals}
+use Rattle.print_once.specs.KeysText.{keys_show_little, totals}
 use Rattle.thinned_search.specs.Limits.{IsCounted, is_lawful}
-use Rattle.fsr_once_answers.specs.declared.keys_verdict.KeysVerdict.{KeysVerdict}
-use Rattle.fsr_once_answers.specs.declared.keys_verdict.KeysVerdict.TheVariants.{Lawful, Unlawful}
+use Rattle.print_once.specs.declared.keys_verdict.KeysVerdict.{KeysVerdict}
+use Rattle.print_once.specs.declared.keys_verdict.KeysVerdict.TheVariants.{Lawful, Unlawful}
 use Rattle.fsr_once_answers.proofs.StatusLemmas.{of_lawful}
 
 -- what a search finds of a key's log

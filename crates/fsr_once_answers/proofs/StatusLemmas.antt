@@ -1,6 +1,6 @@
 -- The answer to a log in lines has status 0 or 1, or that of little.
 use Rattle.std.proofs.Common.{rules, ◌≡◌, ◌≤◌, ◌⊎◌, inl, inr, ℕ, List, Bool, true, false, Result, Ok, Err, refl, ap, sym, subst, arith}
-use Rattle.lines_log.specs.declared.lines_log.LinesLog.{LinesLog}
+use Rattle.kept_lines.specs.declared.lines_log.LinesLog.{LinesLog}
 use Rattle.program_streams.specs.Exits.{status_of as status_at}
 use Rattle.program_runs.specs.Answers.{GivesReply, HasAnswerStatus}
 use Rattle.program_runs.specs.declared.fault.Answer.{Answer}
@@ -9,7 +9,7 @@ use Rattle.program_runs.specs.declared.show.Show.{Show}
 use Rattle.history_core.specs.declared.thinned.LogAnswer.{LogAnswer}
 use Rattle.history_core.specs.declared.thinned.LogAnswer.TheVariants.{Lawful, Unlawful}
 use Rattle.fsr_once_answers.specs.LinesAnswers.{IsLinesAnswer, lawful_exit, status_of}
-use Rattle.fsr_once_answers.specs.Text.{shows_little}
+use Rattle.print_once.specs.Text.{shows_little}
 
 abbrev IsOfAnswer : ℕ → Type 0
 IsOfAnswer status = (status ≤ 1) ⊎ (status ≡ 8)

@@ -18,13 +18,14 @@ use Rattle.read_line.specs.Lines.{Head}
 use Rattle.lines_log.specs.KeyFaults.{IsKeysFault}
 use Rattle.lines_log.specs.Keys.{IsKeyLog, IsKeysLog, keys_in}
 use Rattle.lines_log.specs.Logs.{first_key}
-use Rattle.lines_log.specs.declared.keys_log.KeyLog.{KeyLog}
-use Rattle.lines_log.specs.declared.keys_log.KeysLog.{KeysLog}
+use Rattle.kept_lines.specs.declared.keys_log.KeyLog.{KeyLog}
+use Rattle.kept_lines.specs.declared.keys_log.KeysLog.{KeysLog}
 use Rattle.thinned_search.specs.Limits.{IsCounted, is_lawful}
 use Rattle.fsr_once_answers.specs.LinesAnswers.{lawful_exit}
-use Rattle.fsr_once_answers.specs.KeysText.{keys_show_little, keys_text, small_keys, totals}
-use Rattle.fsr_once_answers.specs.declared.keys_verdict.KeysVerdict.{KeysVerdict}
-use Rattle.fsr_once_answers.specs.declared.keys_verdict.KeysVerdict.TheVariants.{Lawful, Unlawful}
+use Rattle.fsr_once_answers.specs.SmallKeys.{small_keys}
+use Rattle.print_once.specs.KeysText.{keys_show_little, keys_text, totals}
+use Rattle.print_once.specs.declared.keys_verdict.KeysVerdict.{KeysVerdict}
+use Rattle.print_once.specs.declared.keys_verdict.KeysVerdict.TheVariants.{Lawful, Unlawful}
 
 -- what was found of the operations of a key: a lawful order of them, or that there is none, with a reason, whose
 -- operations are kept

@@ -1,7 +1,6 @@
 pub mod ByKeys
 pub mod KeysAnswers
-pub mod KeysText
 pub mod LinesAnswers
 pub mod Once
 pub mod SmallAnswers
-pub mod Text
+pub mod SmallKeys

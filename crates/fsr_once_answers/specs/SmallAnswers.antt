@@ -7,7 +7,7 @@ use Rattle.history_core.specs.declared.thinned.LogAnswer.{LogAnswer}
 use Rattle.history_thinning.specs.Answers.{IsThinnedAnswer, IsOfKept}
 use Rattle.lines_log.specs.Faults.{IsLinesFault}
 use Rattle.lines_log.specs.Logs.{IsLinesLog}
-use Rattle.lines_log.specs.declared.lines_log.LinesLog.{LinesLog}
+use Rattle.kept_lines.specs.declared.lines_log.LinesLog.{LinesLog}
 use Rattle.fsr_once_answers.specs.LinesAnswers.{status_of}
 use Rattle.small_log.specs.Small.{small_text}
 

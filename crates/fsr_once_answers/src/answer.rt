@@ -6,9 +6,10 @@ ghost use Rattle.history_thinning.specs.Thinnings.{IsThinnedLog};
 ghost use Rattle.fsr_once_answers.specs.LinesAnswers.{IsLinesAnswer, exit_of, lawful_exit, printed, status_of};
 ghost use Rattle.thinned_search.specs.Limits.{IsCounted};
 
-use crate::text::{lines_text, shows_little};
 use history_core::{Items, LogAnswer};
-use lines_log::{LinesLog, read_lines};
+use kept_lines::LinesLog;
+use lines_log::read_lines;
+use print_once::{lines_text, shows_little};
 use program_runs::{Answer, Fault, Show};
 use program_streams::Exit;
 use std::alloc::{AllocError, Global};

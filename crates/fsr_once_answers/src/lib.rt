@@ -5,19 +5,15 @@
 mod answer;
 mod by_keys;
 mod keys_answer;
-mod keys_text;
+mod keys_small;
 mod keys_verdict;
 mod once;
 mod program;
 mod small_answer;
-mod text;
-mod whole;
 
 pub use answer::{order_lines, search_log, status_of};
 pub use by_keys::order_by_keys;
 pub use keys_answer::order_keys;
-pub use keys_text::Totals;
-pub use keys_verdict::KeysVerdict;
 pub use once::order_once;
 pub use program::run;
 pub use small_answer::order_small;

@@ -8,7 +8,8 @@ ghost use Rattle.fsr_once_answers.specs.SmallAnswers.{IsSmallAnswer, printed};
 
 use crate::{search_log, status_of};
 use history_core::{Items, LogAnswer};
-use lines_log::{LinesLog, read_lines};
+use kept_lines::LinesLog;
+use lines_log::read_lines;
 use program_runs::{Answer, Fault};
 use small_log::small_text;
 use std::alloc::{AllocError, Global};

@@ -5,7 +5,7 @@ use Rattle.std.specs.Prelude.{◌==◌, nat_le}
 use Rattle.read_document.specs.Document.{json_of, max_bytes, value_of}
 use Rattle.read_document.specs.Refusals.{◌>>=◌, must, some_or}
 use Rattle.read_document.specs.declared.refusal.DocError.TheVariants.{Long, NotJson}
-use Rattle.read_document.specs.Splits.{in_front, lines_of}
+use Rattle.text_lines.specs.Splits.{in_front, lines_of}
 use Rattle.read_document.specs.Kinds.{are_lines, first_is_header, is_header, says_lines}
 
 -- a front and what more comes have one first line, or the front is a part of the first line

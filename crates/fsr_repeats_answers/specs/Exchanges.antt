@@ -7,7 +7,7 @@ use Rattle.exchanges_log.specs.declared.exchanges_log.ExchangesLog.{ExchangesLog
 use Rattle.program_runs.specs.declared.fault.Answer.{Answer}
 use Rattle.program_runs.specs.declared.fault.Fault.{Fault}
 use Rattle.program_runs.specs.declared.fault.Fault.TheVariants.{Undecided}
-use Rattle.read_line.specs.Places.{line_at}
+use Rattle.text_lines.specs.Places.{line_at}
 use Rattle.fsr_repeats_answers.specs.declared.judgement.Judgement.{Judgement}
 use Rattle.fsr_repeats_answers.specs.declared.judgement.Judgement.TheVariants.{Lawful, Lost, Limited, TooMany}
 use Rattle.fsr_repeats_answers.specs.ExchangesText.{lawful_text, limited_text, unlawful_text}

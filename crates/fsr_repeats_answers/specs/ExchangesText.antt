@@ -6,10 +6,10 @@ use Rattle.object_core.specs.declared.operation.Operation.{Operation}
 use Rattle.object_sources.specs.declared.source.Unsourced.{Unsourced}
 use Rattle.object_sources.specs.declared.source.Unsourced.TheVariants.{Unwritten, Early}
 use Rattle.print_reasons.specs.Counts.{count_text, end_text}
-use Rattle.print_reasons.specs.Limited.{limited_lines}
-use Rattle.print_reasons.specs.Lost.{lost_text}
-use Rattle.print_reasons.specs.Together.{together_text}
-use Rattle.print_reasons.specs.Unsourced.{early_lines, unwritten_lines}
+use Rattle.print_evidence.specs.Limited.{limited_lines}
+use Rattle.print_evidence.specs.Lost.{lost_text}
+use Rattle.print_evidence.specs.Together.{together_text}
+use Rattle.print_evidence.specs.Unsourced.{early_lines, unwritten_lines}
 use Rattle.fsr_repeats_answers.specs.declared.evidence.Evidence.{Evidence}
 use Rattle.fsr_repeats_answers.specs.declared.evidence.Evidence.TheVariants.{NoSource, Together, Nothing}
 

@@ -12,8 +12,8 @@ use exchanges_log::laws::read_log_runs_forwards;
 use exchanges_log::{ExchangesLog, read_exchanges};
 use history_core::Items;
 use program_runs::{Answer, Fault};
-use read_line::line_of;
 use std::alloc::{AllocError, Global};
+use text_lines::line_of;
 
 /// The answer of the command `order` to the bytes of a log whose records repeat: whether it has a lawful order, or what
 /// shows that it has none, or else the end at which it is lost; or that there are more configurations than the

@@ -2,17 +2,16 @@
 ghost use Rattle.std.specs.Prelude.{◌≡◌, ◌++◌, IfOk, OnOk};
 ghost use Rattle.fsr_repeats_answers.specs.ExchangesText.{begin_of, counts_text, end_of, lawful_text, ops_text};
 ghost use Rattle.fsr_repeats_answers.specs.ExchangesText.{limited_text, shown_text, unlawful_text, unsourced_text};
-ghost use Rattle.print_reasons.specs.Limited.{limited_lines};
-ghost use Rattle.print_reasons.specs.Together.{together_text};
+ghost use Rattle.print_evidence.specs.Limited.{limited_lines};
+ghost use Rattle.print_evidence.specs.Together.{together_text};
 
 use crate::evidence::Evidence;
 use exchanges_log::ExchangesLog;
 use object_core::Operation;
 use object_sources::Unsourced;
 use object_window::Window;
-use print_reasons::{
-    early_lines, limited_lines, lost_text, push_count, push_end, together_text, unwritten_lines,
-};
+use print_evidence::{early_lines, limited_lines, lost_text, together_text, unwritten_lines};
+use print_reasons::{push_count, push_end};
 use std::alloc::{AllocError, Global};
 
 pub(crate) fn lawful_text(alloc: Global, log: &ExchangesLog) -> Result<Vec<u8>, AllocError>

@@ -7,7 +7,7 @@ use Rattle.std.specs.List.{position, position_or_len}
 use Rattle.std.proofs.lemmas.Bool.Decides.{nat_tests}
 use Rattle.std.proofs.lemmas.List.{take_all}
 use Rattle.std.proofs.lemmas.Option.{none-some, same_Some}
-use Rattle.read_document.specs.Splits.{in_front, lines_of}
+use Rattle.text_lines.specs.Splits.{in_front, lines_of}
 use Rattle.fsr_watch_answers.specs.Fronts.{HasNoFeed, IsFirstLine}
 use Rattle.fsr_watch_answers.specs.inner.Comings.{last_lines}
 

@@ -10,7 +10,7 @@ use Rattle.serde_json.specs.Data.{Data}
 use Rattle.program_runs.specs.declared.fault.Fault.TheVariants.{NoMemory}
 use Rattle.read_document.specs.Document.{json_of, max_bytes, value_of}
 use Rattle.read_document.specs.Refusals.{◌>>=◌, must, some_or}
-use Rattle.read_document.specs.Splits.{lines_of}
+use Rattle.text_lines.specs.Splits.{lines_of}
 use Rattle.read_document.specs.declared.refusal.DocError.{DocError}
 use Rattle.read_document.specs.declared.refusal.DocError.TheVariants.{Long, NotJson}
 use Rattle.read_line.specs.Lines.{head_of}
@@ -19,6 +19,7 @@ use Rattle.watch_lines.specs.Replies.{GoOn, IsToldFrom, StopAt, TellsIf}
 use Rattle.watch_lines.specs.Seen.{fault_of, LinesSeen}
 use Rattle.watch_lines.specs.Steps.{ComesTo, goes_on, IsLastAnswer, IsHeader, IsStep, Outcome, stops}
 use Rattle.watch_lines.specs.WatchEntries.{blank, is_blank, watch_entry_in, watch_entry_of, WatchEntry}
+use Rattle.watch_lines.specs.WatchHeads.{watch_head_of, WatchHead}
 use Rattle.watch_lines.specs.Watchers.{KnowsIf, TakesLine}
 use Rattle.watch_lines.specs.declared.told.Told.{Told}
 use Rattle.watch_lines.specs.declared.told.WatchFault.{WatchFault}
@@ -135,15 +136,15 @@ long_entry bytes l =
     ap (λ (b : Bool). if b then Ok blank else (value_of bytes >>= watch_entry_in)) space
     ∙ ap (λ (r : Result Data DocError). r >>= watch_entry_in) (long_value bytes l)
 
-long_head : (bytes : List ℕ) → max_bytes < length bytes → exchange_head_of bytes ≡ Err Long
-unfolding exchange_head_of head_of
+long_head : (bytes : List ℕ) → max_bytes < length bytes → watch_head_of bytes ≡ Err Long
+unfolding watch_head_of exchange_head_of head_of
 long_head bytes l = rw (long_value bytes l) refl
 
 -- a long line comes to the same, however it goes on
 same_long : (s : Option LinesSeen) (bytes other : List ℕ) (o : Outcome) → max_bytes < length bytes → max_bytes < length other →
     ComesTo s bytes o → ComesTo s other o
 same_long None bytes other o l m comes =
-    let P : Result (List ℕ) DocError → Type 0 = λ r. IsHeader r o in subst P (long_head bytes l ∙ sym (long_head other m)) comes
+    let P : Result WatchHead DocError → Type 0 = λ r. IsHeader r o in subst P (long_head bytes l ∙ sym (long_head other m)) comes
 same_long (Some s) bytes other o l m comes =
     let P : Result WatchEntry DocError → Type 0 = λ r. IsStep s r o in subst P (long_entry bytes l ∙ sym (long_entry other m)) comes
 
@@ -157,7 +158,7 @@ long_stops s bytes reply l takes =
 -- and never goes on
 long_goes : (s : Option LinesSeen) (bytes : List ℕ) (t : LinesSeen) → max_bytes < length bytes → ComesTo s bytes (goes_on t) → ⊥
 long_goes None bytes t l comes =
-    let P : Result (List ℕ) DocError → Type 0 = λ r. IsHeader r (goes_on t) in
+    let P : Result WatchHead DocError → Type 0 = λ r. IsHeader r (goes_on t) in
     let same = subst P (long_head bytes l) comes in cc
 long_goes (Some s) bytes t l comes =
     let P : Result WatchEntry DocError → Type 0 = λ r. IsStep s r (goes_on t) in

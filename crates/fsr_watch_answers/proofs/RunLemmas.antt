@@ -11,7 +11,7 @@ use Rattle.program_runs.specs.declared.fault.Answer.{Answer}
 use Rattle.program_streams.specs.declared.transfer.InputFault.{InputFault}
 use Rattle.program_runs.specs.declared.fault.Fault.TheVariants as fault
 use Rattle.read_document.specs.Document.{max_bytes}
-use Rattle.read_document.specs.Splits.{lines_of}
+use Rattle.text_lines.specs.Splits.{lines_of}
 use Rattle.watch_lines.specs.Replies.{IsToldFrom, IsWatchReply, StopAt, TellsIf}
 use Rattle.watch_lines.specs.Seen.{LinesSeen}
 use Rattle.watch_lines.specs.Watchers.{KnowsIf}

@@ -1,7 +1,7 @@
 -- The first line of a text that goes on (this project's own).
 use Rattle.std.specs.Prelude.{◌≡◌, ℕ, ◌<◌, ◌++◌, ◌∷◌, ◌==◌, List, length, None}
 use Rattle.std.specs.List.{position}
-use Rattle.read_document.specs.Splits.{lines_of}
+use Rattle.text_lines.specs.Splits.{lines_of}
 
 -- a line feed ends the first line, and this text is behind it, whatever comes then
 pub record IsFirstLine (bytes line rest : List ℕ) : Type 0 where

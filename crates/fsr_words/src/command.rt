@@ -16,7 +16,7 @@ use std::alloc::{AllocError, Global};
 use std::convert::AsStr;
 
 /// A command of `fsr`. Each takes documents of its own kinds.
-#[derive(Clone, Copy, Debug, PartialEq, Eq)]
+#[derive(Clone, Copy, PartialEq, Eq)]
 pub enum Want {
     Check,
     Order(Show),
@@ -25,7 +25,7 @@ pub enum Want {
 }
 
 /// What is asked of `fsr`.
-#[derive(Clone, Copy, Debug, PartialEq, Eq)]
+#[derive(Clone, Copy, PartialEq, Eq)]
 pub enum Request {
     /// A command over a document.
     Answer(Want),
@@ -36,7 +36,7 @@ pub enum Request {
 }
 
 /// A request, and the file that it takes its document or log from, if one is named.
-#[derive(Clone, Copy, Debug)]
+#[derive(Clone, Copy)]
 pub struct Asked<'a> {
     pub request: Request,
     pub file: Option<&'a str>,

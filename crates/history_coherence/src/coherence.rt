@@ -9,7 +9,7 @@ pub struct Link {
 }
 
 /// Why no order is coherent. Places are those in the log, counted from 0.
-#[derive(Debug, Drop)]
+#[derive(Drop)]
 pub enum Incoherence {
     /// The record of this finished operation is neither the opening nor written.
     Unwritten { read: usize },
@@ -21,7 +21,7 @@ pub enum Incoherence {
 }
 
 /// What a search answers.
-#[derive(Debug, Drop)]
+#[derive(Drop)]
 pub enum Coherence {
     /// A coherent order.
     Coherent { order: Items<usize> },

@@ -84,14 +84,24 @@ pub record IsRefusedUpTo {R : Type 0} (limit : ℕ) (ops : List (Op R)) (order :
   pub refused : op.kind ≡ Refused
   pub few : writes_in (λ _. true) ops (take early order) < limit
 
--- a finished refused write: in every order that keeps listing, precedence and reading, it or a refused write before it
--- has fewer writes before it than the limit
+-- some order that keeps listing, precedence and reading has this place with fewer writes before it than the limit
+pub record MayHaveFew {R : Type 0} (Same : R → R → Type 0) (opening : R) (limit : ℕ) (ops : List (Op R))
+    (place : ℕ) : Type 0 where
+  pub order : List ℕ
+  pub atomic : IsAtomicOrder Same opening ops order
+  pub entry : ℕ
+  pub listed : slice_get order entry ≡ Some place
+  pub few : writes_in (λ _. true) ops (take entry order) < limit
+
+-- a finished refused write: of the orders that keep listing, precedence and reading one has it with fewer writes before
+-- it than the limit, and each has it, or a refused write before it, with so few
 pub record IsLimited {R : Type 0} (Same : R → R → Type 0) (opening : R) (limit : ℕ) (ops : List (Op R))
     (place : ℕ) : Type 0 where
   pub op : Op R
   pub at : slice_get ops place ≡ Some op
   pub finished : IsSome op.ends
   pub refused : op.kind ≡ Refused
+  pub may : MayHaveFew Same opening limit ops place
   pub few : (order : List ℕ) → IsAtomicOrder Same opening ops order → (i : ℕ) → slice_get order i ≡ Some place →
       IsRefusedUpTo limit ops order i
 

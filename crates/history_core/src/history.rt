@@ -35,7 +35,7 @@ pub struct Term {
 }
 
 /// The operations on one register that held `opening` at first.
-#[derive(Debug, Drop)]
+#[derive(Drop)]
 pub struct History<R> {
     pub opening: R,
     pub terms: Items<Term>,
@@ -43,7 +43,7 @@ pub struct History<R> {
 }
 
 /// What the check of an order answers: lawful, or the first rule that the order breaks.
-#[derive(Clone, Copy, Debug, PartialEq, Eq)]
+#[derive(Clone, Copy, PartialEq, Eq)]
 pub enum Verdict {
     Lawful,
     Listing,

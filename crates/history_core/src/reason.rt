@@ -3,7 +3,7 @@
 use crate::Items;
 
 /// Why no order is lawful. Places are those of the operations, counted from 0.
-#[derive(Clone, Copy, Debug, PartialEq, Eq)]
+#[derive(Clone, Copy, PartialEq, Eq)]
 pub enum Reason {
     /// The record of this finished read or refused write is neither the opening nor written.
     Unwritten {
@@ -34,7 +34,7 @@ pub enum Reason {
 }
 
 /// What a search answers.
-#[derive(Debug, Drop)]
+#[derive(Drop)]
 pub enum Search {
     /// A lawful order.
     Order(Items<usize>),
@@ -44,7 +44,7 @@ pub enum Search {
 
 /// Why a history isn't searched. Of the conditions the first that fails is told, at the least place; of the last
 /// two the least place decides.
-#[derive(Clone, Copy, Debug, PartialEq, Eq)]
+#[derive(Clone, Copy, PartialEq, Eq)]
 pub enum SearchError {
     NoMemory,
     /// The history hasn't one term that begins with its first operation.

@@ -30,7 +30,7 @@ use Rattle.history_search.specs.inner.Found.{IsCrossing, IsEarlyIn, IsFound, IsG
 use Rattle.history_search.specs.inner.Found.{IsPrepared, IsStaleIn, NoneEarlyIn, NoneStaleIn, place_or, refused_in}
 use Rattle.history_search.specs.inner.Groups.{AreGroups, AreSpans, ends_before, HasGroup, HaveGroups, Member}
 use Rattle.history_search.specs.inner.Limits.{IsFirstRefusal}
-use Rattle.history_search.specs.inner.Ranks.{asks_in, begin_in, cut_after, end_in, IsTurned, moment_at, moment_or, NoneTurned}
+use Rattle.history_search.specs.inner.Ranks.{asks_in, begin_in, cut_after, end_in, IsTurned, moment_at, moment_or}
 use Rattle.history_core.proofs.Atomic.{IsSearched, led, no_crossing, no_early, no_stale, no_unwritten, opened, stands, turned}
 use Rattle.history_core.proofs.Counts.{counted, count_up, get_front, of_one_term}
 use Rattle.history_search.proofs.Cuts.{cut_closed, cut_start, cut_step, IsCut, late_by, turned_of, uncrossed}
@@ -99,13 +99,6 @@ module _ {R : Type 0} (ops : List (Op R)) (groups : List (Option ℕ)) where
         before = ij;
         found = refl;
       })
-
-  pub straight_from : (spans : List Span) (ranks seen : List Rank) → seen ≡ ranks → AreSorted ops groups spans None ranks →
-      NoneTurned ops seen (length seen) → AreStraight ops groups spans ranks
-  straight_from spans ranks seen s sorted none = record {
-    sorted = sorted;
-    none = let P : List Rank → Type 0 = λ z. NoneTurned ops z (length z) in subst P s none;
-  }
 
   pub found_from : (spans : List Span) (limit : ℕ) → IsPrepared ops groups spans → (search : Search) →
       IsGroupSearch ops groups spans limit search → IsFound ops groups limit search
@@ -431,18 +424,27 @@ module _ {R : Type 0} (Same : R → R → Type 0) (opening : R) (limit : ℕ) (t
 
       -- a refused write of the opening has no write before it
       opening_limited : (place : ℕ) (found : Option Span) → slice_get spans 0 ≡ found → refused_in found ≡ Some place → 0 < limit →
-          IsLimited Same opening limit ops place
-      opening_limited place None e h l = cc
-      opening_limited place (Some span) e h l =
+          (order : List ℕ) → IsAtomicOrder Same opening ops order → IsLimited Same opening limit ops place
+      opening_limited place None e h l found_order found_atomic = cc
+      opening_limited place (Some span) e h l found_order found_atomic =
           let y = (spanned.each 0 span e).asker place h in
+          let finished : IsSome y.0.ends = elim (finished_or Same opening ops groups known are place 0 y.0 y.1) [
+            | inl f ↦ f
+            | inr t ↦ let k : is_write y.0.kind ≡ false = ap is_write y.2 in cc
+          ] in
+          let stood = stands Same opening ops found_order known found_atomic place y.0 y.1.0 finished in
           record {
             op = y.0;
             at = y.1.0;
-            finished = elim (finished_or Same opening ops groups known are place 0 y.0 y.1) [
-              | inl f ↦ f
-              | inr t ↦ let k : is_write y.0.kind ≡ false = ap is_write y.2 in cc
-            ];
+            finished = finished;
             refused = y.2;
+            may = record {
+              order = found_order;
+              atomic = found_atomic;
+              entry = stood.0;
+              listed = stood.1;
+              few = let n = none_written found_order found_atomic stood.0 stood.1 y.0 y.1 in omega arith;
+            };
             few = λ order atomic i at. record {
               early = i;
               place = place;
@@ -492,6 +494,13 @@ module _ {R : Type 0} (Same : R → R → Type 0) (opening : R) (limit : ℕ) (t
             at = first.is;
             finished = finished;
             refused = first.refused;
+            may = record {
+              order = order;
+              atomic = order_atomic order (inr f);
+              entry = h.0;
+              listed = h.2.at;
+              few = let counted = h.2.counted in let less = h.3 in omega arith;
+            };
             few = λ o atomic i at. refused_up_to Same opening ops groups known are all spans spanned early stale
                 (cut_by spans None f.straight)
                 (λ v t. late_by Same opening ops groups known are all spans spanned early stale f.straight f.are_straight.sorted.are
@@ -517,7 +526,7 @@ module _ {R : Type 0} (Same : R → R → Type 0) (opening : R) (limit : ℕ) (t
       found_limit : (place : ℕ) → IsGroupLimit ops groups spans limit place → IsUnlawful Same opening limit terms ops (Limit place)
       found_limit place h = elim h [
         | inl x ↦ limited place (places_of x.0) (straight_atomic x.0 x.1)
-            (opening_limited place (slice_get spans 0) refl x.3 x.2)
+            (opening_limited place (slice_get spans 0) refl x.3 x.2 (places_of x.0) (straight_atomic x.0 x.1))
         | inr x ↦ limited place x.0 (order_atomic x.0 (inr x.1)) (late_limited place x.0 x.1 x.2)
       ]
 

@@ -1,12 +1,12 @@
 -- One more step of each loop, over plain lists.
 use Rattle.std.proofs.Common.{◌≡◌, ◌≢◌, ℕ, zero, suc, ◌+◌, ◌<◌, ◌≤◌, Bool, true, false, List, [], ◌∷◌, ◌++◌, length, take, get_or}
 use Rattle.std.proofs.Common.{refl, sym, ◌∙◌, ap, subst, arith, ◌⊎◌, inl, inr, slice_get, set, replicate, Option, None, Some, nat_eq}
-use Rattle.std.specs.Prelude.{IfNone, IfSome, IsSome, IsSomeAnd, is_some, nat_lt, if◌then◌else◌, ◌&&◌}
+use Rattle.std.specs.Prelude.{IfSome, IsSome, IsSomeAnd, is_some, nat_lt, if◌then◌else◌}
 use Rattle.std.specs.List.{All}
 use Rattle.std.specs.List.Sorted.{IsPermutation}
 use Rattle.std.proofs.lemmas.Bool.{cases_lt, cases_eq, cases_Bool}
 use Rattle.std.proofs.lemmas.Bool.Decides.{nat_tests}
-use Rattle.std.proofs.lemmas.List.Sums.{count_by_more_yes, count_by_more_no, sum_by-append, sum_by-cons}
+use Rattle.std.proofs.lemmas.List.Sums.{sum_by-append, sum_by-cons}
 use Rattle.std.proofs.Common.{length-set}
 use Rattle.std.proofs.lemmas.List.{length-replicate}
 use Rattle.std.proofs.lemmas.List.Sorted.{All-permutation, IsPermutation-map, sum_by-IsPermutation, Contains-permutation}
@@ -14,7 +14,7 @@ use Rattle.std.proofs.lemmas.Option.{slice_get_within, same_Some, slice_get-get_
 use Rattle.history_core.specs.declared.history.Op.{Op}
 use Rattle.history_core.specs.declared.history.Kind.{Kind}
 use Rattle.history_core.specs.declared.history.Kind.TheVariants.{Write, Read, Refused}
-use Rattle.history_core.specs.Orders.{is_write_at, times_of, writes_in}
+use Rattle.history_core.specs.Orders.{times_of, writes_in}
 use Rattle.history_core.proofs.Listed.{some_and_from, some_and_of}
 use Rattle.history_core.proofs.Listing.{times_nowhere}
 use Rattle.history_core.proofs.Places.{get_pushed_cases, get_last, get_stays, get_set_other, get_set_same}
@@ -47,22 +47,6 @@ stale_past spans s m at e none opened other found begins =
     let q : s ≡ opened = same_Some s opened (sym at ∙ found) in
     let k : m ≡ other = same_Some m other (sym e ∙ ap (λ (y : Span). y.begins) q ∙ begins) in
     subst (λ (y : Moment). NoneEndsBefore spans y.at) k none
-
--- the group of a place is none, or this one
-pub none_asked : {R : Type 0} (ops : List (Op R)) (groups : List (Option ℕ)) (spans : List Span) (cut : Option (Option ℕ)) (place : ℕ)
-    (r : Option Rank) → place < length groups → get_or groups place None ≡ None →
-    IfNone r ((g : ℕ) (o : Op R) → Member ops groups place o g → stands_in cut g (slice_get spans g) ≡ false)
-none_asked ops groups spans cut place None l e = λ g o m.
-    let k : None ≡ Some g = same_Some None (Some g) (ap Some (sym e) ∙ sym (slice_get-get_or groups place None l) ∙ m.1) in
-    absurd (none-some g k)
-none_asked ops groups spans cut place (Some x) l e = tt
-
-pub not_stood : (groups : List (Option ℕ)) (spans : List Span) (cut : Option (Option ℕ)) (place group g : ℕ) → place < length groups →
-    get_or groups place None ≡ Some group → stands_in cut group (slice_get spans group) ≡ false →
-    slice_get groups place ≡ Some (Some g) → stands_in cut g (slice_get spans g) ≡ false
-not_stood groups spans cut place group g l e isnt at =
-    let k : Some group ≡ Some g = same_Some (Some group) (Some g) (ap Some (sym e) ∙ sym (slice_get-get_or groups place None l) ∙ at) in
-    subst (λ (z : ℕ). stands_in cut z (slice_get spans z) ≡ false) (same_Some group g k) isnt
 
 module _ {R : Type 0} (ops : List (Op R)) where
   -- a read that precedes the write of its group, whose span has the number m

@@ -1,14 +1,15 @@
--- A sorted list of ranks is in order.
-use Rattle.std.proofs.Common.{◌≡◌, ℕ, ◌<◌, ◌≤◌, Bool, true, false, List, get_or, refl, sym, ◌∙◌, ap, arith, inl, inr}
+-- Places that are sorted by rank have their ranks in order.
+use Rattle.std.proofs.Common.{◌≡◌, ℕ, ◌<◌, ◌≤◌, Bool, true, false, List, [], ◌∷◌, get_or, refl, sym, ◌∙◌, ap, arith, inl, inr}
+use Rattle.std.proofs.Common.{zero, suc, map, slice_get, Some}
 use Rattle.std.specs.Prelude.{nat_eq, nat_lt}
-use Rattle.std.specs.List.Sorted.{IsSorted}
+use Rattle.std.specs.List.Sorted.{IsSortedByKey}
 use Rattle.std.specs.declared.cmp.Ordering.{Ordering}
 use Rattle.std.specs.declared.cmp.Ordering.TheVariants.{Less, Equal}
 use Rattle.std.specs.Ordering.{is_lt, nat_cmp, bool_cmp, ordering_then}
 use Rattle.std.proofs.lemmas.Bool.{cases_lt}
 use Rattle.std.proofs.lemmas.Bool.Decides.{nat_tests}
 use Rattle.std.proofs.lemmas.List.Sorted.{ranks_by, sorted_far}
-use Rattle.std.proofs.lemmas.Option.{slice_get_within, get_or_from_slice_get}
+use Rattle.std.proofs.lemmas.Option.{slice_get_within, get_or_from_slice_get, same_Some, none-some}
 use Rattle.history_search.specs.contracts.rank.RankOrd.TheImpl.Laws.{total-law as RankTotal}
 use Rattle.history_search.specs.declared.rank.Rank.{Rank}
 use Rattle.history_search.specs.inner.Ranks.{AreInOrder, IsNoLater}
@@ -64,10 +65,21 @@ no_later x y h =
           ((then_number x.group y.group _ ((then_number x.last y.last _ ((then_number x.first y.first _ (a.1 l)).1 f)).1 t)).1 g)).1 r)).0;
     }
 
-pub sorted_in_order : (ranks : List Rank) → IsSorted rank_cmp ranks → AreInOrder ranks
-sorted_in_order ranks up i j x y ei ej l =
-    let far : is_lt (rank_cmp (get_or ranks j x) (get_or ranks i x)) ≡ false =
-    sorted_far (λ u v. is_lt (rank_cmp u v)) (ranks_by RankTotal (λ z. z)) ranks up i j x (omega arith) (slice_get_within ranks j y ej) in
-    let gx : get_or ranks i x ≡ x = get_or_from_slice_get ranks i x x ei in
-    let gy : get_or ranks j x ≡ y = get_or_from_slice_get ranks j y x ej in
-    no_later x y (ap (λ z. is_lt (rank_cmp z x)) (sym gy) ∙ (ap (λ z. is_lt (rank_cmp (get_or ranks j x) z)) (sym gx) ∙ far))
+-- whose rank stands there
+rank_from : (rank : ℕ → Rank) (places : List ℕ) (i : ℕ) (x : Rank) → slice_get (map rank places) i ≡ Some x →
+    (p : ℕ) × (slice_get places i ≡ Some p) × (rank p ≡ x)
+rank_from rank [] i x e = absurd (none-some x e)
+rank_from rank (p ∷ places) zero x e = (p, refl, same_Some (rank p) x e)
+rank_from rank (p ∷ places) (suc i) x e = rank_from rank places i x e
+
+pub sorted_in_order : (rank : ℕ → Rank) (places : List ℕ) → IsSortedByKey rank rank_cmp places → AreInOrder (map rank places)
+sorted_in_order rank places up i j x y ei ej l =
+    let p = rank_from rank places i x ei in
+    let q = rank_from rank places j y ej in
+    let far : is_lt (rank_cmp (rank (get_or places j p.0)) (rank (get_or places i p.0))) ≡ false =
+    sorted_far (λ u v. is_lt (rank_cmp (rank u) (rank v))) (ranks_by RankTotal rank) places up i j p.0 (omega arith)
+    (slice_get_within places j q.0 q.1) in
+    let gx : rank (get_or places i p.0) ≡ x = ap rank (get_or_from_slice_get places i p.0 p.0 p.1) ∙ p.2 in
+    let gy : rank (get_or places j p.0) ≡ y = ap rank (get_or_from_slice_get places j q.0 p.0 q.1) ∙ q.2 in
+    no_later x y (ap (λ z. is_lt (rank_cmp z x)) (sym gy)
+    ∙ (ap (λ z. is_lt (rank_cmp (rank (get_or places j p.0)) z)) (sym gx) ∙ far))

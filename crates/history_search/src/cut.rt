@@ -2,18 +2,27 @@
 
 ghost use Rattle.std.specs.Prelude.{◌≡◌, None, slice_get};
 ghost use Rattle.history_search.specs.inner.Found.{cut_by};
-ghost use Rattle.history_search.specs.inner.Ranks.{cut_after, earliest};
+ghost use Rattle.history_search.specs.inner.Groups.{spans_in};
+ghost use Rattle.history_search.specs.inner.Ranks.{cut_after, earliest, ranks_in};
 
-use crate::rank::{Rank, end, is_late, span_at};
-use crate::span::Span;
+use crate::rank::{end, group_at, is_late, span_at};
+use crate::span::{Marks, Span};
+use history_core::Op;
 
-/// The earliest end of the late groups, from the sorted ranks of groups of which no two cross.
-pub(crate) fn late_end(spans: &[Span], ranks: &[Rank]) -> Option<u64>
-    ensures { result ≡ cut_by spans.now None ranks.now }
+/// The earliest end of the late groups, from the places that are sorted by rank, of groups of which no two cross.
+pub(crate) fn late_end<R>(
+    ops: &[Op<R>],
+    groups: &[Option<usize>],
+    spans: &[Marks],
+    places: &[usize],
+) -> Option<u64>
+    ensures { result ≡ cut_by (spans_in ops.now spans.now) None
+        (ranks_in ops.now groups.now (spans_in ops.now spans.now) None places.now) }
 {
     let mut end = None;
-    for rank in ranks {
-        end = after(end, rank.group, span_at(spans, rank.group));
+    for place in places {
+        let group = group_at(groups, *place);
+        end = after(end, group, span_at(ops, spans, group));
     }
     end
 }

@@ -1,16 +1,18 @@
 //! The search over groups: ranks, then crossings, and where the limit wants it the late groups last.
 
-ghost use Rattle.std.specs.Prelude.{◌≡◌, ◌<◌, ◌≤◌, ◌↔◌, ℕ, length, IfNone, IfOk, IfSome, IsSomeAnd, IsTrue};
+ghost use Rattle.std.specs.Prelude.{◌≡◌, ◌<◌, ◌≤◌, ◌↔◌, ℕ, length, IfNone, IfOk, IfSome, IsSomeAnd, IsTrue, None};
 ghost use Rattle.std.specs.Prelude.{Some, slice_get, if◌then◌else◌};
 ghost use Rattle.history_core.specs.declared.history.Kind.TheVariants.{Refused};
 ghost use Rattle.history_core.specs.Orders.{is_write_at};
 ghost use Rattle.history_search.specs.inner.Found.{AreStraight, HasEnough, HasTooFew, IsFound};
 ghost use Rattle.history_search.specs.inner.Found.{IsGroupSearch, refused_in};
+ghost use Rattle.history_search.specs.inner.Groups.{spans_in};
+ghost use Rattle.history_search.specs.inner.Ranks.{ranks_in};
 
 use crate::cut::late_end;
 use crate::group::first_ungrouped;
-use crate::rank::{Rank, places, rank_ops, span_at};
-use crate::span::{EarlyRead, Span, StaleRead, first_early, first_stale, span_groups};
+use crate::rank::{rank_ops, span_at};
+use crate::span::{EarlyRead, Marks, Span, StaleRead, first_early, first_stale, span_groups};
 use crate::turn::{Turn, crossing, first_turn};
 use history_core::{Items, Kind, Op, Reason, Search};
 use std::alloc::{AllocError, Global};
@@ -33,7 +35,7 @@ pub(crate) fn search_groups<R>(
     if let Some(EarlyRead { read, write }) = first_early(ops, spans.as_slice()) {
         return Ok(Search::Unlawful(Reason::Early { read, write }));
     }
-    if let Some(StaleRead { before, read }) = first_stale(spans.as_slice()) {
+    if let Some(StaleRead { before, read }) = first_stale(ops, spans.as_slice()) {
         return Ok(Search::Unlawful(Reason::Stale { before, read }));
     }
     order_groups(alloc, limit, ops, groups, spans.as_slice())
@@ -45,21 +47,20 @@ fn order_groups<R>(
     limit: u64,
     ops: &[Op<R>],
     groups: &[Option<usize>],
-    spans: &[Span],
+    spans: &[Marks],
 ) -> Result<Search, AllocError>
     requires { length groups.now ≡ length ops.now }
-    ensures { IfOk result (IsGroupSearch ops.now groups.now spans.now limit) }
+    ensures { IfOk result (IsGroupSearch ops.now groups.now (spans_in ops.now spans.now) limit) }
 {
-    let ranks = rank_ops(alloc, ops, groups, spans, None)?;
-    if let Some(Turn { earlier, later }) = first_turn(ops, ranks.as_slice()) {
-        let one = span_at(spans, earlier.group);
-        let other = span_at(spans, later.group);
+    let order = rank_ops(alloc, ops, groups, spans, None)?;
+    if let Some(Turn { earlier, later }) = first_turn(ops, groups, spans, order.as_slice()) {
+        let one = span_at(ops, spans, earlier.group);
+        let other = span_at(ops, spans, later.group);
         return Ok(Search::Unlawful(crossing(one, other)));
     }
-    let order = places(alloc, ranks.as_slice())?;
     match first_too_few(ops, order.as_slice(), limit) {
         None => Ok(Search::Order(Items::new(order))),
-        Some(_) => order_late(alloc, limit, ops, groups, spans, ranks.as_slice()),
+        Some(_) => order_late(alloc, limit, ops, groups, spans, order.as_slice()),
     }
 }
 
@@ -69,20 +70,20 @@ fn order_late<R>(
     limit: u64,
     ops: &[Op<R>],
     groups: &[Option<usize>],
-    spans: &[Span],
-    ranks: &[Rank],
+    spans: &[Marks],
+    straight: &[usize],
 ) -> Result<Search, AllocError>
     requires long { length groups.now ≡ length ops.now }
-    requires straight { AreStraight ops.now groups.now spans.now ranks.now }
+    requires straight { AreStraight ops.now groups.now (spans_in ops.now spans.now)
+        (ranks_in ops.now groups.now (spans_in ops.now spans.now) None straight.now) }
     requires limited { 0 < limit }
-    ensures { IfOk result (IsGroupSearch ops.now groups.now spans.now limit) }
+    ensures { IfOk result (IsGroupSearch ops.now groups.now (spans_in ops.now spans.now) limit) }
 {
-    if let Some(refused) = refused_in(span_at(spans, 0)) {
+    if let Some(refused) = refused_in(span_at(ops, spans, 0)) {
         return Ok(Search::Unlawful(Reason::Limit { refused }));
     }
-    let late = late_end(spans, ranks);
-    let sorted = rank_ops(alloc, ops, groups, spans, Some(late))?;
-    let order = places(alloc, sorted.as_slice())?;
+    let late = late_end(ops, groups, spans, straight);
+    let order = rank_ops(alloc, ops, groups, spans, Some(late))?;
     match first_too_few(ops, order.as_slice(), limit) {
         None => Ok(Search::Order(Items::new(order))),
         Some(refused) => Ok(Search::Unlawful(Reason::Limit { refused })),

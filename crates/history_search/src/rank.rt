@@ -1,14 +1,14 @@
 //! The ranks by which operations are sorted.
 
-ghost use Rattle.std.specs.Prelude.{◌≡◌, ◌<◌, ℕ, false, length, map, IfNone, IfOk, IfSome, Some, None, slice_get};
-ghost use Rattle.history_core.specs.declared.history.Op.{Op};
-ghost use Rattle.history_search.specs.inner.Groups.{Member};
+ghost use Rattle.std.specs.Prelude.{◌≡◌, length, not, IfOk, slice_get};
+ghost use Rattle.history_core.specs.Orders.{is_write_at};
+ghost use Rattle.history_search.specs.inner.Groups.{spans_in};
 ghost use Rattle.history_search.specs.inner.Found.{AreSorted};
-ghost use Rattle.history_search.specs.inner.Ranks.{asks_in, begin_in, end_in, first_in, is_above, is_late};
-ghost use Rattle.history_search.specs.inner.Ranks.{IsRank, last_in, late_in};
-ghost use Rattle.history_search.specs.inner.Ranks.{stands_in};
+ghost use Rattle.history_search.specs.inner.Ranks.{asks_in, begin_in, end_in, first_in, group_or, is_above, is_late};
+ghost use Rattle.history_search.specs.inner.Ranks.{last_in, late_in, rank_in, ranks_in, stands_in, stands_with};
+ghost use Rattle.history_search.specs.inner.Ranks.{starts_of};
 
-use crate::span::Span;
+use crate::span::{Marks, Span, span_in};
 use history_core::{Kind, Op};
 use std::alloc::{AllocError, Global};
 
@@ -29,65 +29,103 @@ pub struct Rank {
     pub place: usize,
 }
 
-/// The sorted ranks of the operations of the groups that stand.
+/// The places of the operations of the groups that stand, sorted by rank.
 pub(crate) fn rank_ops<R>(
     alloc: Global,
     ops: &[Op<R>],
     groups: &[Option<usize>],
-    spans: &[Span],
+    spans: &[Marks],
     cut: Option<Option<u64>>,
-) -> Result<Vec<Rank>, AllocError>
+) -> Result<Vec<usize>, AllocError>
     requires { length groups.now ≡ length ops.now }
-    ensures { IfOk result (λ v. AreSorted ops.now groups.now spans.now cut v.items) }
+    ensures { IfOk result (λ v. AreSorted ops.now groups.now (spans_in ops.now spans.now) cut
+        (ranks_in ops.now groups.now (spans_in ops.now spans.now) cut v.items)) }
 {
-    let mut ranks = Vec::new(alloc);
+    let mut places = Vec::new(alloc);
     for place in 0..ops.len() {
-        match rank_at(ops, groups, spans, cut, place) {
-            Some(rank) => ranks.push(rank)?,
-            None => {}
+        if stands_at(ops, groups, spans, cut, place) {
+            places.push(place)?;
         }
     }
-    ranks.sort_unstable();
-    Ok(ranks)
+    places.sort_unstable_by_key(|place| rank_at(ops, groups, spans, cut, *place));
+    Ok(places)
 }
 
-/// The rank of the operation at a place, or none where it has no group that stands.
-fn rank_at<R>(
+/// Whether the operation at a place has a group that stands.
+fn stands_at<R>(
     ops: &[Op<R>],
     groups: &[Option<usize>],
-    spans: &[Span],
+    spans: &[Marks],
     cut: Option<Option<u64>>,
     place: usize,
-) -> Option<Rank>
-    requires long { length groups.now ≡ length ops.now }
-    requires inside { place < length ops.now }
-    ensures some { IfSome result (λ r. IsRank ops.now groups.now spans.now cut r) }
-    ensures here { IfSome result (λ r. r.place ≡ place) }
-    ensures none { IfNone result ((g : ℕ) (o : Op R) → Member ops.now groups.now place o g →
-        stands_in cut g (slice_get spans.now g) ≡ false) }
+) -> bool
+    ensures { result ≡ stands_with cut (spans_in ops.now spans.now) (slice_get groups.now place) }
 {
-    let group = groups[place]?;
-    let span = span_at(spans, group);
-    if !stands(cut, group, span) {
-        return None;
+    match groups.get(place) {
+        Some(Some(group)) => stands(cut, *group, span_at(ops, spans, *group)),
+        _ => false,
     }
-    let op = &ops[place];
-    Some(Rank {
+}
+
+/// The rank of the operation at a place. Without a group it has that of the opening.
+pub(crate) fn rank_at<R>(
+    ops: &[Op<R>],
+    groups: &[Option<usize>],
+    spans: &[Marks],
+    cut: Option<Option<u64>>,
+    place: usize,
+) -> Rank
+    ensures { result ≡ rank_in ops.now groups.now (spans_in ops.now spans.now) cut place }
+{
+    let group = group_at(groups, place);
+    let span = span_at(ops, spans, group);
+    Rank {
         late: late(cut, group, span),
         first: first(group, span),
         last: last(group, span),
         group,
-        answers: op.kind != Kind::Write,
-        starts: op.starts,
+        answers: !is_write_at(ops, place),
+        starts: starts_at(ops, place),
         place,
-    })
+    }
+}
+
+/// The group of the operation at a place, or else that of the opening.
+pub(crate) fn group_at(groups: &[Option<usize>], place: usize) -> usize
+    ensures { result ≡ group_or (slice_get groups.now place) }
+{
+    match groups.get(place) {
+        Some(Some(group)) => *group,
+        _ => 0,
+    }
+}
+
+fn is_write_at<R>(ops: &[Op<R>], place: usize) -> bool
+    ensures { result ≡ is_write_at (slice_get ops.now place) }
+{
+    match ops.get(place) {
+        Some(op) => op.kind == Kind::Write,
+        None => false,
+    }
+}
+
+fn starts_at<R>(ops: &[Op<R>], place: usize) -> u64
+    ensures { result ≡ starts_of (slice_get ops.now place) }
+{
+    match ops.get(place) {
+        Some(op) => op.starts,
+        None => 0,
+    }
 }
 
 /// The span of a group.
-pub(crate) fn span_at(spans: &[Span], group: usize) -> Option<Span>
-    ensures { result ≡ slice_get spans.now group }
+pub(crate) fn span_at<R>(ops: &[Op<R>], spans: &[Marks], group: usize) -> Option<Span>
+    ensures { result ≡ slice_get (spans_in ops.now spans.now) group }
 {
-    spans.get(group).copied()
+    match spans.get(group) {
+        Some(marks) => Some(span_in(ops, *marks)),
+        None => None,
+    }
 }
 
 /// The earliest end of a group.
@@ -174,11 +212,4 @@ fn stands(cut: Option<Option<u64>>, group: usize, span: Option<Span>) -> bool
         None => end(span).is_some(),
         Some(late_end) => end(span).is_some() || !is_late(late_end, group, span),
     }
-}
-
-/// The places of the ranks, in their order.
-pub(crate) fn places(alloc: Global, ranks: &[Rank]) -> Result<Vec<usize>, AllocError>
-    ensures { IfOk result (λ v. v.items ≡ map (λ r. r.place) ranks.now) }
-{
-    ranks.iter().map(|r| r.place).collect(alloc)
 }

@@ -1,9 +1,10 @@
 //! The span of a group: its earliest end and its latest beginning.
 
 ghost use Rattle.std.specs.Prelude.{◌≡◌, ◌+◌, ◌≤◌, ℕ, length, IfNone, IfOk, IfSome, None, Some, replicate, slice_get};
-ghost use Rattle.history_search.specs.inner.Groups.{AreSpans, earlier_moment, empty_span, ends_before};
-ghost use Rattle.history_search.specs.inner.Groups.{joined_span, later_moment};
-ghost use Rattle.history_search.specs.inner.Groups.{refused_at};
+ghost use Rattle.std.specs.Prelude.{if◌then◌else◌};
+ghost use Rattle.history_search.specs.inner.Groups.{AreSpans, beginning, begins_last, empty_marks, ending, ends_before};
+ghost use Rattle.history_search.specs.inner.Groups.{ends_first, found_at, is_refused, joined_marks, nowhere, span_in};
+ghost use Rattle.history_search.specs.inner.Groups.{spans_in};
 ghost use Rattle.history_search.specs.inner.Found.{EndsBefore, IsEarlyIn, IsStaleIn, NoneEarlyIn};
 ghost use Rattle.history_search.specs.inner.Found.{NoneEndsBefore, NoneStaleIn};
 
@@ -28,39 +29,57 @@ pub struct Span {
     pub refused: Option<usize>,
 }
 
-/// The spans of all groups.
+/// The places of the operations that a span goes by. `NOWHERE` stands for none.
+#[derive(Clone, Copy)]
+pub struct Marks {
+    /// The operation with the earliest end.
+    pub ends: u32,
+    /// That with the latest beginning.
+    pub begins: u32,
+    /// A refused write.
+    pub refused: u32,
+}
+
+/// No operation has this place.
+const NOWHERE: u32 = u32::MAX;
+
+/// The spans of all groups. There is no memory for more operations than there are places.
 pub(crate) fn span_groups<R>(
     alloc: Global,
     ops: &[Op<R>],
     groups: &[Option<usize>],
-) -> Result<Vec<Span>, AllocError>
+) -> Result<Vec<Marks>, AllocError>
     requires long { length groups.now ≡ length ops.now }
     requires within { (p g : ℕ) → slice_get groups.now p ≡ Some (Some g) → g ≤ length ops.now }
-    ensures { IfOk result (λ v. AreSpans ops.now groups.now (length ops.now) v.items) }
+    ensures { IfOk result (λ v. AreSpans ops.now groups.now (length ops.now) (spans_in ops.now v.items)) }
 {
+    if ops.len() > NOWHERE as usize {
+        return Err(AllocError);
+    }
     let mut spans = empty_spans(alloc, ops)?;
     join_ops(spans.as_mut_slice(), ops, groups);
     Ok(spans)
 }
 
 /// Joins each operation to the span of its group.
-fn join_ops<R>(spans: &mut [Span], ops: &[Op<R>], groups: &[Option<usize>])
+fn join_ops<R>(spans: &mut [Marks], ops: &[Op<R>], groups: &[Option<usize>])
+    requires few { length ops.now ≤ nowhere }
     requires long { length groups.now ≡ length ops.now }
     requires within { (p g : ℕ) → slice_get groups.now p ≡ Some (Some g) → g ≤ length ops.now }
-    requires empty { AreSpans ops.now groups.now 0 spans.old }
-    ensures { AreSpans ops.now groups.now (length ops.now) spans.new }
+    requires empty { AreSpans ops.now groups.now 0 (spans_in ops.now spans.old) }
+    ensures { AreSpans ops.now groups.now (length ops.now) (spans_in ops.now spans.new) }
 {
     for place in 0..ops.len() {
         if let Some(group) = groups[place] {
-            let span = joined(spans[group], &ops[place], place);
-            spans[group] = span;
+            let marks = joined(ops, spans[group], &ops[place], place as u32);
+            spans[group] = marks;
         }
     }
 }
 
 /// An empty span for the opening, and one for each operation.
-fn empty_spans<R>(alloc: Global, ops: &[Op<R>]) -> Result<Vec<Span>, AllocError>
-    ensures { IfOk result (λ v. v.items ≡ replicate (length ops.now + 1) empty_span) }
+fn empty_spans<R>(alloc: Global, ops: &[Op<R>]) -> Result<Vec<Marks>, AllocError>
+    ensures { IfOk result (λ v. v.items ≡ replicate (length ops.now + 1) empty_marks) }
 {
     let mut spans = Vec::new(alloc);
     spans.push(empty())?;
@@ -70,60 +89,112 @@ fn empty_spans<R>(alloc: Global, ops: &[Op<R>]) -> Result<Vec<Span>, AllocError>
     Ok(spans)
 }
 
-fn empty() -> Span
-    ensures { result ≡ empty_span }
+fn empty() -> Marks
+    ensures { result ≡ empty_marks }
 {
-    Span {
-        ends: None,
-        begins: None,
-        refused: None,
+    Marks {
+        ends: NOWHERE,
+        begins: NOWHERE,
+        refused: NOWHERE,
     }
 }
 
-/// The span with one more operation.
-fn joined<R>(span: Span, op: &Op<R>, place: usize) -> Span
-    ensures { result ≡ joined_span span op.now place }
+/// The span that marks stand for.
+pub(crate) fn span_in<R>(ops: &[Op<R>], marks: Marks) -> Span
+    ensures { result ≡ span_in ops.now marks }
 {
     Span {
-        ends: earlier(span.ends, op.ends, place),
-        begins: later(span.begins, op.starts, place),
-        refused: refused(span.refused, op.kind, place),
+        ends: ending(ops, marks.ends),
+        begins: beginning(ops, marks.begins),
+        refused: found_at(ops, marks.refused),
     }
 }
 
-fn earlier(ends: Option<Moment>, end: Option<u64>, place: usize) -> Option<Moment>
-    ensures { result ≡ earlier_moment ends end place }
+/// The moment at which the operation at a place ends, if it does.
+fn ending<R>(ops: &[Op<R>], place: u32) -> Option<Moment>
+    ensures { result ≡ ending (slice_get ops.now place) place }
+{
+    match ops.get(place as usize) {
+        Some(op) => match op.ends {
+            Some(at) => Some(Moment {
+                at,
+                place: place as usize,
+            }),
+            None => None,
+        },
+        None => None,
+    }
+}
+
+/// The moment at which it begins.
+fn beginning<R>(ops: &[Op<R>], place: u32) -> Option<Moment>
+    ensures { result ≡ beginning (slice_get ops.now place) place }
+{
+    match ops.get(place as usize) {
+        Some(op) => Some(Moment {
+            at: op.starts,
+            place: place as usize,
+        }),
+        None => None,
+    }
+}
+
+/// The place itself, where there is an operation.
+fn found_at<R>(ops: &[Op<R>], place: u32) -> Option<usize>
+    ensures { result ≡ found_at (slice_get ops.now place) place }
+{
+    match ops.get(place as usize) {
+        Some(_) => Some(place as usize),
+        None => None,
+    }
+}
+
+/// The marks with one more operation, which is at this place.
+fn joined<R>(ops: &[Op<R>], marks: Marks, op: &Op<R>, place: u32) -> Marks
+    ensures { result ≡ joined_marks ops.now marks op.now place }
+{
+    let first = ends_first(ending(ops, marks.ends), op.ends);
+    let last = begins_last(beginning(ops, marks.begins), op.starts);
+    Marks {
+        ends: taken(first, place, marks.ends),
+        begins: taken(last, place, marks.begins),
+        refused: taken(is_refused(op.kind), place, marks.refused),
+    }
+}
+
+fn taken(takes: bool, place: u32, kept: u32) -> u32
+    ensures { result ≡ (if takes then place else kept) }
+{
+    if takes { place } else { kept }
+}
+
+/// Whether this end is earlier than the earliest so far.
+fn ends_first(ends: Option<Moment>, end: Option<u64>) -> bool
+    ensures { result ≡ ends_first ends end }
 {
     match (ends, end) {
-        (ends, None) => ends,
-        (None, Some(at)) => Some(Moment { at, place }),
-        (Some(m), Some(at)) => if at < m.at {
-            Some(Moment { at, place })
-        } else {
-            Some(m)
-        },
+        (_, None) => false,
+        (None, Some(_)) => true,
+        (Some(m), Some(at)) => at < m.at,
     }
 }
 
-fn later(begins: Option<Moment>, at: u64, place: usize) -> Option<Moment>
-    ensures { result ≡ later_moment begins at place }
+/// Whether this beginning is later than the latest so far.
+fn begins_last(begins: Option<Moment>, at: u64) -> bool
+    ensures { result ≡ begins_last begins at }
 {
     match begins {
-        None => Some(Moment { at, place }),
-        Some(m) => if m.at < at {
-            Some(Moment { at, place })
-        } else {
-            Some(m)
-        },
+        None => true,
+        Some(m) => m.at < at,
     }
 }
 
-fn refused(refused: Option<usize>, kind: Kind, place: usize) -> Option<usize>
-    ensures { result ≡ refused_at refused kind place }
+fn is_refused(kind: Kind) -> bool
+    ensures { result ≡ is_refused kind }
 {
     match kind {
-        Kind::Refused => Some(place),
-        Kind::Write | Kind::Read => refused,
+        Kind::Refused => true,
+        Kind::Write | Kind::Read => false,
     }
 }
 
@@ -144,13 +215,14 @@ pub struct EarlyRead {
     pub write: usize,
 }
 
-pub(crate) fn first_early<R>(ops: &[Op<R>], spans: &[Span]) -> Option<EarlyRead>
+pub(crate) fn first_early<R>(ops: &[Op<R>], spans: &[Marks]) -> Option<EarlyRead>
     requires { length spans.now ≡ length ops.now + 1 }
-    ensures some { IfSome result (λ e. IsEarlyIn ops.now spans.now e.read e.write) }
-    ensures none { IfNone result (NoneEarlyIn ops.now spans.now (length ops.now)) }
+    ensures some { IfSome result (λ e. IsEarlyIn ops.now (spans_in ops.now spans.now) e.read e.write) }
+    ensures none { IfNone result (NoneEarlyIn ops.now (spans_in ops.now spans.now) (length ops.now)) }
 {
     for write in 0..ops.len() {
-        match ends_before(spans[write + 1].ends, ops[write].starts) {
+        let span = span_in(ops, spans[write + 1]);
+        match ends_before(span.ends, ops[write].starts) {
             Some(read) => return Some(EarlyRead { read, write }),
             None => {}
         }
@@ -165,14 +237,15 @@ pub struct StaleRead {
     pub read: usize,
 }
 
-pub(crate) fn first_stale(spans: &[Span]) -> Option<StaleRead>
+pub(crate) fn first_stale<R>(ops: &[Op<R>], spans: &[Marks]) -> Option<StaleRead>
     requires { 1 ≤ length spans.now }
-    ensures some { IfSome result (λ s. IsStaleIn spans.now s.before s.read) }
-    ensures none { IfNone result (NoneStaleIn spans.now) }
+    ensures some { IfSome result (λ s. IsStaleIn (spans_in ops.now spans.now) s.before s.read) }
+    ensures none { IfNone result (NoneStaleIn (spans_in ops.now spans.now)) }
 {
-    match spans[0].begins {
+    let opened = span_in(ops, spans[0]);
+    match opened.begins {
         None => None,
-        Some(m) => match first_before(spans, m.at) {
+        Some(m) => match first_before(ops, spans, m.at) {
             None => None,
             Some(before) => Some(StaleRead {
                 before,
@@ -183,12 +256,13 @@ pub(crate) fn first_stale(spans: &[Span]) -> Option<StaleRead>
 }
 
 /// The first operation of another record than the opening that ends before this moment.
-fn first_before(spans: &[Span], moment: u64) -> Option<usize>
-    ensures some { IfSome result (EndsBefore spans.now moment) }
-    ensures none { IfNone result (NoneEndsBefore spans.now moment) }
+fn first_before<R>(ops: &[Op<R>], spans: &[Marks], moment: u64) -> Option<usize>
+    ensures some { IfSome result (EndsBefore (spans_in ops.now spans.now) moment) }
+    ensures none { IfNone result (NoneEndsBefore (spans_in ops.now spans.now) moment) }
 {
     for group in 1..spans.len() {
-        match ends_before(spans[group].ends, moment) {
+        let span = span_in(ops, spans[group]);
+        match ends_before(span.ends, moment) {
             Some(before) => return Some(before),
             None => {}
         }

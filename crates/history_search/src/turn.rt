@@ -1,11 +1,12 @@
 //! Groups that cross: two operations that stand against precedence in the sorted ranks show them.
 
-ghost use Rattle.std.specs.Prelude.{◌≡◌, ◌<◌, ◌↔◌, ℕ, length, IfNone, IfSome, IsTrue, Some, slice_get};
+ghost use Rattle.std.specs.Prelude.{◌≡◌, ◌<◌, ◌↔◌, ℕ, length, IfNone, IfSome, IsTrue, None, Some, slice_get};
+ghost use Rattle.history_search.specs.inner.Groups.{spans_in};
 ghost use Rattle.history_search.specs.inner.Found.{begin_place, crossing_of, end_place, place_or};
-ghost use Rattle.history_search.specs.inner.Ranks.{ends_at, IsTurned, later_rank, NoneTurned};
+ghost use Rattle.history_search.specs.inner.Ranks.{ends_at, IsTurned, later_rank, NoneTurned, ranks_in};
 
-use crate::rank::Rank;
-use crate::span::{Moment, Span};
+use crate::rank::{Rank, rank_at};
+use crate::span::{Marks, Moment, Span};
 use history_core::{Op, Reason};
 
 /// Two ranks of which the second stands behind the first, and its operation precedes that of the first.
@@ -15,17 +16,25 @@ pub struct Turn {
     pub later: Rank,
 }
 
-pub(crate) fn first_turn<R>(ops: &[Op<R>], ranks: &[Rank]) -> Option<Turn>
-    ensures some { IfSome result (λ t. (i : ℕ) × (j : ℕ) × (i < j) × (slice_get ranks.now i ≡ Some t.earlier)
-        × (slice_get ranks.now j ≡ Some t.later) × IsTurned ops.now t.earlier t.later) }
-    ensures none { IfNone result (NoneTurned ops.now ranks.now (length ranks.now)) }
+/// A turn among the places that are sorted by rank.
+pub(crate) fn first_turn<R>(
+    ops: &[Op<R>],
+    groups: &[Option<usize>],
+    spans: &[Marks],
+    places: &[usize],
+) -> Option<Turn>
+    ensures some { let ranks = ranks_in ops.now groups.now (spans_in ops.now spans.now) None places.now in
+        IfSome result (λ t. (i : ℕ) × (j : ℕ) × (i < j) × (slice_get ranks i ≡ Some t.earlier)
+        × (slice_get ranks j ≡ Some t.later) × IsTurned ops.now t.earlier t.later) }
+    ensures none { IfNone result (NoneTurned ops.now
+        (ranks_in ops.now groups.now (spans_in ops.now spans.now) None places.now) (length places.now)) }
 {
-    if ranks.len() == 0 {
+    if places.len() == 0 {
         return None;
     }
-    let mut last = ranks[0];
-    for i in 1..ranks.len() {
-        let rank = ranks[i];
+    let mut last = rank_at(ops, groups, spans, None, places[0]);
+    for i in 1..places.len() {
+        let rank = rank_at(ops, groups, spans, None, places[i]);
         if is_turned(ops, &last, &rank) {
             return Some(Turn {
                 earlier: last,

@@ -25,7 +25,7 @@ use Rattle.history_core.specs.declared.thinned.Thinned.{Thinned}
 use Rattle.history_thinning.specs.inner.Mapped.{AreWritePlaces, found_or, place_in, reason_in}
 use Rattle.history_thinning.proofs.Reasons.{alike, kept_known, place_of, rule_least, searched, write_kept}
 use Rattle.history_thinning.proofs.Restricting.{keep, limit_of, restricted_lawful}
-use Rattle.history_thinning.proofs.Whole.{lawful_whole}
+use Rattle.history_thinning.proofs.Whole.{lawful_whole, may_whole}
 use Rattle.history_thinning.proofs.Expanding.{whole}
 use std.Univalence.{h_prop_ext}
 
@@ -110,7 +110,12 @@ module _ (log kept : List (Op ℕ)) (places : List ℕ) (thin : IsThinned Equal 
     other_opened = r.other_opened;
   }
   reason_whole limit (Limit refused) r =
-      limit_of log kept places thin known limit refused (place_in places refused) (index_of refused r.op r.at) r
+      let place = place_in places refused in
+      let index = index_of refused r.op r.at in
+      let m = r.may in
+      limit_of log kept places thin known limit refused place index r
+      (may_whole log kept places thin known m.order m.atomic limit refused place m.entry r.op index r.at r.finished r.refused m.listed
+      m.few)
 
   names_kept : (limit : ℕ) (reason : Reason) → IsReason Equal 0 limit kept reason → NamesKept places (reason_in places reason)
   names_kept limit (Unwritten read) r = (read, index_of read r.op r.at)

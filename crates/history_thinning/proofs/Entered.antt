@@ -17,12 +17,11 @@ use Rattle.history_core.specs.Searches.{AreForwards, IsOpeningWrite, IsWrittenTw
 use Rattle.history_core.specs.declared.reason.SearchError.{SearchError}
 use Rattle.history_core.specs.declared.reason.SearchError.TheVariants.{Backwards, WritesOpening, WritesTwice}
 use Rattle.history_core.proofs.Atomic.{of_one, of_opening, shares}
-use Rattle.history_thinning.specs.declared.group.Group.{Group}
 use Rattle.history_thinning.specs.declared.group.Placed.{Placed}
 use Rattle.history_thinning.specs.Answers.{IsThinnedFault}
 use Rattle.history_thinning.specs.Thinnings.{Equal}
 use Rattle.history_thinning.specs.inner.Entering.{entry_fault, Grows, is_backwards, write_fault, write_place, written_number}
-use Rattle.history_thinning.specs.inner.Kept.{AreKept, empty_group, IsGroup, IsStoodFor, joined_group, StandsFor}
+use Rattle.history_thinning.specs.inner.Kept.{AreKept, empty_group, Group, IsGroup, IsStoodFor, joined_group, StandsFor}
 use Rattle.history_thinning.proofs.Joined.{group_stays, joined_is, stands_new, stands_still}
 
 backwards_is : (starts : ℕ) (ends : Option ℕ) → is_backwards starts ends ≡ true → IsSomeAnd ends (λ end. end < starts)
@@ -197,7 +196,7 @@ module _ (log : List (Op ℕ)) (op : Op ℕ) where
         cc
 
     -- empty groups more keep as much
-    module _ (grown : List Group) (grows : Grows groups grown) where
+    module _ (grown : List Group) (grows : Grows empty_group groups grown) where
       empty_is : (number : ℕ) (group : Group) → group ≡ empty_group → IsGroup log number group
       empty_is number group e =
           let none : IsGroup log number empty_group = record {

@@ -13,10 +13,9 @@ use Rattle.history_core.proofs.Listed.{some_and_from, some_and_of}
 use Rattle.history_core.proofs.Places.{get_last, get_stays}
 use Rattle.history_core.specs.Reasons.{counts}
 use Rattle.history_core.proofs.Atomic.{some_from}
-use Rattle.history_thinning.specs.declared.group.Group.{Group}
 use Rattle.history_thinning.specs.declared.group.Placed.{Placed}
-use Rattle.history_thinning.specs.inner.Kept.{earlier_end, end_of, first_of, IsGroup, IsPlaced, joined_group, later_begin, latest_refused}
-use Rattle.history_thinning.specs.inner.Kept.{latest_write, StandsFor}
+use Rattle.history_thinning.specs.inner.Kept.{earlier_end, end_of, first_of, Group, IsGroup, IsPlaced, joined_group, later_begin}
+use Rattle.history_thinning.specs.inner.Kept.{latest_refused, latest_write, StandsFor}
 
 below : (a b : ℕ) → nat_lt a b ≡ true → a < b
 below a b h = grind (arith, nat_tests)

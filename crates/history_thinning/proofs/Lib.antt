@@ -1,7 +1,9 @@
 -- Lemmas.
 pub mod Joined
 pub mod Entered
-pub mod Gathering
+pub mod Growing
+pub mod RowLemmas
+pub mod Compacted
 pub mod Finished
 pub mod Steps
 pub mod Writes

@@ -18,7 +18,7 @@ use Rattle.history_core.specs.Orders.{IsAtomicOrder, IsVerdict, in_term, is_writ
 use Rattle.history_core.specs.Orders.{times_of, writes_in}
 use Rattle.history_core.proofs.Latest.{left_unwritten}
 use Rattle.history_core.proofs.Listing.{listing_from}
-use Rattle.history_core.specs.Reasons.{IsLimited, IsRefusedUpTo}
+use Rattle.history_core.specs.Reasons.{IsLimited, IsRefusedUpTo, MayHaveFew}
 use Rattle.history_core.proofs.Atomic.{IsSearched, some_from, stands, stands_once_at}
 use Rattle.history_core.proofs.Counts.{front_get, get_front, of_one_term, times_some}
 use Rattle.history_thinning.specs.Thinnings.{Equal, IsThinned, one_term}
@@ -345,13 +345,15 @@ module _ (log kept : List (Op ℕ)) (places : List ℕ) (thin : IsThinned Equal 
             subst P same (omega (arith, old))
         keeps (suc k) t at e i o h g r within = cc
 
-  -- a limit's reason of what was kept is one of the whole log
-  pub limit_of : (limit i p : ℕ) → slice_get places i ≡ Some p → IsLimited Equal 0 limit kept i → IsLimited Equal 0 limit log p
-  limit_of limit i p index r = record {
+  -- a limit's reason of what was kept is one of the whole log, if some order of that has it with too few writes before it
+  pub limit_of : (limit i p : ℕ) → slice_get places i ≡ Some p → IsLimited Equal 0 limit kept i → MayHaveFew Equal 0 limit log p →
+      IsLimited Equal 0 limit log p
+  limit_of limit i p index r may = record {
     op = r.op;
     at = thin.are i p r.op index r.at;
     finished = r.finished;
     refused = r.refused;
+    may = may;
     few = few;
   }
     where

@@ -7,7 +7,7 @@ use Rattle.std.specs.List.{count_by}
 use Rattle.std.proofs.lemmas.Bool.{cases_Bool, cases_eq, cases_lt, cases_order}
 use Rattle.std.proofs.lemmas.List.Sums.{sum_by-cons}
 use Rattle.std.proofs.Math.Seq.{take-length}
-use Rattle.std.proofs.lemmas.Option.{same_Some, slice_get_within, slice_get_cases, slice_get-get_or}
+use Rattle.std.proofs.lemmas.Option.{get_or_from_slice_get, same_Some, slice_get_within, slice_get_cases, slice_get-get_or}
 use Rattle.history_core.specs.declared.history.Op.{Op}
 use Rattle.history_core.specs.declared.history.Term.{Term}
 use Rattle.history_core.specs.declared.history.Kind.{Kind}
@@ -19,7 +19,7 @@ use Rattle.history_core.proofs.Latest.{HasItemByNumber, NoWriteBetween, reads_by
 use Rattle.history_core.proofs.Listed.{some_and_of}
 use Rattle.history_core.proofs.Listing.{listing_from, StandsOnce, times_cases, times_once}
 use Rattle.history_core.proofs.Numbered.{keeps_by_number}
-use Rattle.history_core.specs.Reasons.{counts, IsOfOpening, OfOneRecord}
+use Rattle.history_core.specs.Reasons.{counts, IsOfOpening, MayHaveFew, OfOneRecord}
 use Rattle.history_core.proofs.Atomic.{IsSearched, joined, led, no_early, of_one, opened, shares, some_from, stands}
 use Rattle.history_core.proofs.Atomic.{stands_once_at, turned}
 use Rattle.history_core.proofs.Counts.{count_up, counted, front_get, get_front, of_one_term, times_some, writes_next}
@@ -577,3 +577,49 @@ module _ (log kept : List (Op ℕ)) (places : List ℕ) (thin : IsThinned Equal 
         let x = shares Equal a b one in
         by_beginning i j p q a b at_a at_b l (same_number p q a b x.x at_a.1 at_b.1 x.has_x (x.has_y ∙ ap Some (sym x.same))) f;
   }
+
+  -- a kept refused write has as many writes before it there
+  same_at_refused : (i p e entry : ℕ) (o : Op ℕ) → slice_get kept i ≡ Some o → IsSome o.ends → o.kind ≡ Refused →
+      slice_get order e ≡ Some i → StandsAt log all entry p o →
+      writes_in (λ _. true) log (take entry all) ≡ writes_in (λ _. true) kept (take e order)
+  same_at_refused i p e entry o is ended r listed at = elim (led_at entry p o at) [
+    | inr w ↦
+        let f : is_write o.kind ≡ false = refused_kind o.kind r in
+        let x = led_mate log kept places thin known order atomic w.number w.entry w.index i w.write o w.at is
+        (finished_stands o.ends (is_write o.kind) ended) (of_one Equal w.write o w.number w.number w.at.item w.item refl) in
+        let s : x.0 ≡ e = stands_once_at Equal 0 kept order kk atomic x.0 e i x.1 listed in
+        let long = slice_get_within order x.0 i x.1 in
+        let up_to : w.entry ≤ x.0 = x.2.up_to in
+        let same : writes_in (λ _. true) kept (take (x.0 + 1) order) ≡ writes_in (λ _. true) kept (take (w.entry + 1) order) =
+        writes_same kept order (w.entry + 1) (x.0 + 1) (omega arith) (omega arith) x.2.none in
+        let none : is_write_at (slice_get kept (get_or order x.0 0)) ≡ false =
+        ap (λ z. is_write_at (slice_get kept z)) (get_or_from_slice_get order x.0 i 0 x.1) ∙ ap is_write_at is ∙ f in
+        count_at_answer entry p o at f w ∙ sym same ∙ writes_next kept order x.0 long
+        ∙ ap (λ b. writes_in (λ _. true) kept (take x.0 order) + (if b then 1 else 0)) none ∙ omega arith
+        ∙ ap (λ n. writes_in (λ _. true) kept (take n order)) s
+    | inl h ↦ same_count entry e
+        (λ j q b at_b t z l.
+        let m = number_of q b at_b.1 z in
+        let n = number_opened log kept places thin known order atomic p o at.1 h in
+        let le : number_at q ≤ number_at p = sorted j entry q p b o at_b at l in
+        absurd (omega arith))
+        (λ j q b at_b t z l.
+        let none : is_write_at (slice_get kept z.index) ≡ false = front h z.entry z.index (omega arith) (omega (arith, l)) z.at.at in
+        let some : is_write_at (slice_get kept z.index) ≡ true = ap is_write_at z.at.is ∙ z.at.writes in
+        cc)
+  ]
+    where
+      front : IsOfOpening Equal 0 o → NoWriteBetween kept order 0 (e + 1)
+      front h = elim (led Equal 0 kept order kk atomic e i o listed is) [
+        | inl x ↦ absurd (kk.fresh x.1 x.2 x.3.is x.3.writes (opened Equal alike 0 x.2 o (turned Equal alike o x.2 x.3.one) h))
+        | inr y ↦ y.0
+      ]
+
+  -- so where a kept refused write has fewer than the limit before it, it has so few there
+  pub may_whole : (limit i p e : ℕ) (o : Op ℕ) → slice_get places i ≡ Some p → slice_get kept i ≡ Some o → IsSome o.ends →
+      o.kind ≡ Refused → slice_get order e ≡ Some i → writes_in (λ _. true) kept (take e order) < limit → MayHaveFew Equal 0 limit log p
+  may_whole limit i p e o index is ended r listed few =
+      let at : slice_get log p ≡ Some o = thin.are i p o index is in
+      let w = is_whole log kept places thin known order atomic p o at (finished_stands o.ends _ ended) in
+      let same = same_at_refused i p e w.0 o is ended r listed (w.1, at) in
+      record { order = all; atomic = atomic_whole; entry = w.0; listed = w.1; few = omega (arith, few) }

@@ -1,4 +1,4 @@
 pub mod Kept
 pub mod Entering
-pub mod Gathered
+pub mod Compacting
 pub mod Mapped

@@ -1,22 +1,29 @@
-//! One more operation: whether it may be entered, and its group with it.
+//! One more operation: whether it may be entered, and its row and roles with it.
 
-ghost use Rattle.std.specs.Prelude.{◌≡◌, ◌<◌, length, get_or, set, OnErr, OnOk};
-ghost use Rattle.history_thinning.specs.inner.Entering.{counted_number, entry_fault, Grows, is_backwards};
-ghost use Rattle.history_thinning.specs.inner.Entering.{write_fault, write_place, written_number};
-ghost use Rattle.history_thinning.specs.inner.Kept.{empty_group, joined_group};
+ghost use Rattle.std.specs.Prelude.{◌≡◌, ◌<◌, ◌++◌, ◌∷◌, [], length, get_or, set, IfOk, OnErr, OnOk};
+ghost use Rattle.history_thinning.specs.inner.Entering.{counted_number, empty_roles, Grows, is_backwards};
+ghost use Rattle.history_thinning.specs.inner.Entering.{joined_roles, row_fault, row_write_fault, row_write_place};
+ghost use Rattle.history_thinning.specs.inner.Entering.{written_number};
+ghost use Rattle.history_thinning.specs.inner.Kept.{nowhere};
 
-use crate::group::{Group, Placed, empty, joined};
+use crate::group::{NOWHERE, Placed, Roles, empty, joined};
+use crate::rows::{Rows, push};
 use history_core::{Kind, Op, SearchError};
 use std::alloc::AllocError;
 
 /// Why an operation at this place isn't entered, if so.
-pub(crate) fn entry_fault(groups: &[Group], op: &Op<usize>, place: usize) -> Option<SearchError>
-    ensures { result ≡ entry_fault groups.now op.now place }
+pub(crate) fn entry_fault(
+    places: &[usize],
+    roles: &[Roles],
+    op: &Op<usize>,
+    place: usize,
+) -> Option<SearchError>
+    ensures { result ≡ row_fault places.now roles.now op.now place }
 {
     if is_backwards(op.starts, op.ends) {
         return Some(SearchError::Backwards { place });
     }
-    write_fault(groups, written_number(op)?, place)
+    write_fault(places, roles, written_number(op)?, place)
 }
 
 /// Whether an operation ends before it begins.
@@ -39,13 +46,18 @@ fn written_number(op: &Op<usize>) -> Option<usize>
     }
 }
 
-fn write_fault(groups: &[Group], number: usize, place: usize) -> Option<SearchError>
-    ensures { result ≡ write_fault groups.now number place }
+fn write_fault(
+    places: &[usize],
+    roles: &[Roles],
+    number: usize,
+    place: usize,
+) -> Option<SearchError>
+    ensures { result ≡ row_write_fault places.now roles.now number place }
 {
     if number == 0 {
         return Some(SearchError::WritesOpening { place });
     }
-    let first = write_place(groups, number)?;
+    let first = write_place(places, roles, number)?;
     Some(SearchError::WritesTwice {
         first,
         second: place,
@@ -53,10 +65,11 @@ fn write_fault(groups: &[Group], number: usize, place: usize) -> Option<SearchEr
 }
 
 /// The place of the write of a record.
-fn write_place(groups: &[Group], number: usize) -> Option<usize>
-    ensures { result ≡ write_place groups.now number }
+fn write_place(places: &[usize], roles: &[Roles], number: usize) -> Option<usize>
+    ensures { result ≡ row_write_place places.now roles.now number }
 {
-    Some(groups.get(number)?.write?.place)
+    let own = roles.get(number)?;
+    places.get(own.write as usize).copied()
 }
 
 /// The record of an operation that counts: one that is finished, or a write.
@@ -70,27 +83,57 @@ pub(crate) fn counted_number(op: &Op<usize>) -> Option<usize>
     }
 }
 
-/// Empty groups up to this one.
-pub(crate) fn make_room(groups: &mut Vec<Group>, number: usize) -> Result<(), AllocError>
-    ensures grown { OnOk result (Grows groups.old.items groups.new.items) }
-    ensures room { OnOk result (number < length groups.new.items) }
-    ensures failed { OnErr result (Grows groups.old.items groups.new.items) }
+/// Empty roles up to those of this record.
+pub(crate) fn make_room(roles: &mut Vec<Roles>, number: usize) -> Result<(), AllocError>
+    ensures grown { OnOk result (Grows empty_roles roles.old.items roles.new.items) }
+    ensures room { OnOk result (number < length roles.new.items) }
+    ensures failed { OnErr result (Grows empty_roles roles.old.items roles.new.items) }
 {
-    if number < groups.len() {
+    if number < roles.len() {
         return Ok(());
     }
-    for _ in groups.len()..number {
-        groups.push(empty())?;
+    for _ in roles.len()..number {
+        roles.push(empty())?;
     }
-    groups.push(empty())?;
+    roles.push(empty())?;
     Ok(())
 }
 
-/// One more operation in its group.
-pub(crate) fn join(groups: &mut Vec<Group>, number: usize, placed: Placed)
-    requires { number < length groups.old.items }
-    ensures { groups.new.items
-        ≡ set groups.old.items number (joined_group (get_or groups.old.items number empty_group) placed) }
+/// One more operation, with what it is of its record. Where there is no memory for it, all stays as it is.
+pub(crate) fn join(
+    rows: &mut Rows,
+    roles: &mut Vec<Roles>,
+    number: usize,
+    placed: Placed,
+) -> Result<(), AllocError>
+    requires { number < length roles.old.items }
+    ensures few { OnOk result (length rows.old.ops.items < nowhere) }
+    ensures ops { OnOk result (rows.new.ops.items ≡ rows.old.ops.items ++ placed.op ∷ []) }
+    ensures places { OnOk result (rows.new.places.items ≡ rows.old.places.items ++ placed.place ∷ []) }
+    ensures roles { OnOk result (roles.new.items ≡ set roles.old.items number
+        (joined_roles rows.old.ops.items (get_or roles.old.items number empty_roles) placed.op
+        (length rows.old.ops.items))) }
+    ensures same_ops { OnErr result (rows.new.ops.items ≡ rows.old.ops.items) }
+    ensures same_places { OnErr result (rows.new.places.items ≡ rows.old.places.items) }
+    ensures same_roles { OnErr result (roles.new.items ≡ roles.old.items) }
 {
-    groups[number] = joined(groups[number], placed);
+    let next = next_index(rows.ops.len())?;
+    let own = joined(rows.ops.as_slice(), roles[number], &placed.op, next);
+    push(rows, placed.op, placed.place)?;
+    roles[number] = own;
+    Ok(())
+}
+
+/// The index of one more. There is no memory for more operations than there are indices: each has some fifty bytes.
+fn next_index(count: usize) -> Result<u32, AllocError>
+    ensures { IfOk result (λ next. (next ≡ count) × (count < nowhere)) }
+{
+    match u32::try_from(count) {
+        Ok(next) => if next < NOWHERE {
+            Ok(next)
+        } else {
+            Err(AllocError)
+        },
+        Err(_) => Err(AllocError),
+    }
 }

@@ -1,8 +1,9 @@
 //! What is kept of one record.
 
-ghost use Rattle.std.specs.Prelude.{◌≡◌};
-ghost use Rattle.history_thinning.specs.inner.Kept.{earlier_end, empty_group, end_of, joined_group};
-ghost use Rattle.history_thinning.specs.inner.Kept.{later_begin, latest_refused, latest_write};
+ghost use Rattle.std.specs.Prelude.{◌≡◌, if◌then◌else◌};
+ghost use Rattle.history_thinning.specs.inner.Entering.{begins_last, empty_roles, end_at, ends_first, is_refused};
+ghost use Rattle.history_thinning.specs.inner.Entering.{joined_roles, start_at};
+ghost use Rattle.history_core.specs.Orders.{is_write};
 
 use history_core::{Kind, Op};
 
@@ -13,87 +14,102 @@ pub struct Placed {
     pub place: usize,
 }
 
-/// The operations that are kept of one record.
+/// Which of the kept operations are kept of one record, by their indices. `NOWHERE` stands for none.
 #[derive(Clone, Copy)]
-pub struct Group {
+pub struct Roles {
     /// Its write.
-    pub write: Option<Placed>,
+    pub write: u32,
     /// The first to end of those that are finished.
-    pub first: Option<Placed>,
+    pub first: u32,
     /// The last to begin of those that are finished or the write.
-    pub last: Option<Placed>,
+    pub last: u32,
     /// A finished refused write.
-    pub refused: Option<Placed>,
+    pub refused: u32,
 }
 
-pub(crate) fn empty() -> Group
-    ensures { result ≡ empty_group }
+/// No operation has this index.
+pub(crate) const NOWHERE: u32 = u32::MAX;
+
+pub(crate) fn empty() -> Roles
+    ensures { result ≡ empty_roles }
 {
-    Group {
-        write: None,
-        first: None,
-        last: None,
-        refused: None,
+    Roles {
+        write: NOWHERE,
+        first: NOWHERE,
+        last: NOWHERE,
+        refused: NOWHERE,
     }
 }
 
-/// The group with one more operation.
-pub(crate) fn joined(group: Group, placed: Placed) -> Group
-    ensures { result ≡ joined_group group placed }
+/// The roles with one more operation of the record, which is to have this index.
+pub(crate) fn joined(kept: &[Op<usize>], roles: Roles, op: &Op<usize>, next: u32) -> Roles
+    ensures { result ≡ joined_roles kept.now roles op.now next }
 {
-    Group {
-        write: write(group.write, placed),
-        first: earlier(group.first, placed),
-        last: later(group.last, placed),
-        refused: refused(group.refused, placed),
+    let first = ends_first(op.ends, end_at(kept, roles.first));
+    let last = begins_last(op.starts, start_at(kept, roles.last));
+    Roles {
+        write: taken(is_write(op.kind), next, roles.write),
+        first: taken(first, next, roles.first),
+        last: taken(last, next, roles.last),
+        refused: taken(is_refused(op.kind), next, roles.refused),
     }
 }
 
-fn write(kept: Option<Placed>, placed: Placed) -> Option<Placed>
-    ensures { result ≡ latest_write kept placed placed.op.kind }
+fn taken(takes: bool, next: u32, kept: u32) -> u32
+    ensures { result ≡ (if takes then next else kept) }
 {
-    match placed.op.kind {
-        Kind::Write => Some(placed),
-        Kind::Read | Kind::Refused => kept,
+    if takes { next } else { kept }
+}
+
+fn is_write(kind: Kind) -> bool
+    ensures { result ≡ is_write kind }
+{
+    match kind {
+        Kind::Write => true,
+        Kind::Read | Kind::Refused => false,
     }
 }
 
-fn earlier(kept: Option<Placed>, placed: Placed) -> Option<Placed>
-    ensures { result ≡ earlier_end kept placed placed.op.ends }
+fn is_refused(kind: Kind) -> bool
+    ensures { result ≡ is_refused kind }
 {
-    let Some(end) = placed.op.ends else {
-        return kept;
-    };
-    match end_of(kept) {
-        None => Some(placed),
-        Some(least) => if end < least { Some(placed) } else { kept },
+    match kind {
+        Kind::Refused => true,
+        Kind::Write | Kind::Read => false,
     }
 }
 
-fn end_of(kept: Option<Placed>) -> Option<u64>
-    ensures { result ≡ end_of kept }
+/// Whether an operation with this end ends before the kept one, which ends then.
+fn ends_first(ends: Option<u64>, kept: Option<u64>) -> bool
+    ensures { result ≡ ends_first ends kept }
 {
-    kept?.op.ends
-}
-
-fn later(kept: Option<Placed>, placed: Placed) -> Option<Placed>
-    ensures { result ≡ later_begin kept placed }
-{
-    match kept {
-        None => Some(placed),
-        Some(last) => if last.op.starts < placed.op.starts {
-            Some(placed)
-        } else {
-            kept
+    match ends {
+        None => false,
+        Some(end) => match kept {
+            None => true,
+            Some(least) => end < least,
         },
     }
 }
 
-fn refused(kept: Option<Placed>, placed: Placed) -> Option<Placed>
-    ensures { result ≡ latest_refused kept placed placed.op.kind }
+/// Whether an operation begins behind the kept one, which begins then.
+fn begins_last(starts: u64, kept: Option<u64>) -> bool
+    ensures { result ≡ begins_last starts kept }
 {
-    match placed.op.kind {
-        Kind::Refused => Some(placed),
-        Kind::Write | Kind::Read => kept,
+    match kept {
+        None => true,
+        Some(latest) => latest < starts,
     }
+}
+
+fn end_at(kept: &[Op<usize>], index: u32) -> Option<u64>
+    ensures { result ≡ end_at kept.now index }
+{
+    kept.get(index as usize)?.ends
+}
+
+fn start_at(kept: &[Op<usize>], index: u32) -> Option<u64>
+    ensures { result ≡ start_at kept.now index }
+{
+    Some(kept.get(index as usize)?.starts)
 }

@@ -3,10 +3,11 @@
 #![tactic(auto)]
 
 mod answer;
+mod compact;
 mod enter;
-mod gather;
 mod group;
 pub mod laws;
+mod rows;
 mod thinner;
 
 pub use answer::answer_of;

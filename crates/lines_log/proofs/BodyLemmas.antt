@@ -9,17 +9,16 @@ use Rattle.read_document.specs.declared.key.Key.TheVariants as key
 use Rattle.history_core.specs.declared.history.Op.{Op}
 use Rattle.read_document.specs.Refusals.{◌>>=◌}
 use Rattle.program_runs.specs.declared.fault.Fault.{Fault}
-use Rattle.read_document.specs.Splits.{in_front, IsSplit, lines_of}
+use Rattle.text_lines.specs.Splits.{in_front, IsSplit, lines_of}
 use Rattle.read_line.specs.Lines.{done, LineEntry, entry_of, Head, head_of, operation}
 use Rattle.lines_log.specs.Faults.{IsBodyFault, is_end, is_last, IsLineFault}
 use Rattle.lines_log.specs.Logs.{AreAll, AreLines, first_key, IsLinesLog, is_refused, judged, judged_line, LineRule, rule_in, same_key}
 use Rattle.lines_log.specs.Logs.{text_of}
 use Rattle.std.specs.Prelude.{MatchOption, is_some, unwrap_or}
 use Rattle.history_thinning.specs.Thinnings.{IsThinnedLog}
-use Rattle.lines_log.specs.declared.lines_log.LinesLog.{LinesLog}
+use Rattle.kept_lines.specs.declared.lines_log.LinesLog.{LinesLog}
 use Rattle.lines_log.specs.inner.Readings.{IsFinished, AreRead, HasRest, IsReadWhole, IsPartlyRead, ReadsLine, rule_of}
 use Rattle.lines_log.specs.declared.reader.Reader.{Reader}
-use Rattle.lines_log.proofs.ReadLemmas.{distinct}
 
 -- with lines behind it a line is no end
 abbrev judged_inside : LineRule → ℕ → Result LineEntry DocError → Result (Option (Op (List ℕ))) DocError
@@ -131,9 +130,9 @@ at_fault opening rule ended body rest line behind reader f way split wrong = fil
       log = way.read.log;
       are = subst (λ (b : LineRule). AreLines b way.lines way.read.records way.read.log) way.limits way.read.are;
       opened = way.read.opened;
-      distinct = distinct way.read.records reader.numbering way.read.numbering;
+      distinct = way.read.numbered.distinct;
       turns = way.read.tasks.turn;
-      once = way.read.kept.once;
+      once = way.read.kept.kept.once;
       wrong = subst (λ (b : Bool). IsLineFault opening rule way.lines line b f) (sym (last_of_rest behind))
           (subst (λ (b : LineRule). IsLineFault opening b way.lines line (is_end behind) f) way.limits (wrong way.lines way.read));
     }
@@ -171,13 +170,13 @@ assembled bytes text first body head limit ended reader log is_text split said r
           all = subst (λ (b : LineRule). AreAll b ended (lines_of body) whole.lines) rule whole.all;
           are = subst (λ (b : LineRule). AreLines b whole.lines records ops) rule whole.read.are;
           opening = whole.read.opened;
-          distinct = distinct records reader.numbering whole.read.numbering;
+          distinct = whole.read.numbered.distinct;
           turns = whole.read.tasks.turn;
         };
         thinned = subst (λ (n : ℕ). IsThinnedLog n ops log.thinned) limit_is (finished.thinned ops whole.read.kept);
         ops = finished.ops ∙ whole.read.count;
         unfinished = finished.unfinished ∙ whole.read.unfinished;
-        count = finished.count records whole.read.numbering;
+        count = finished.count records whole.read.numbered;
         given = finished.given ops whole.read.reads;
         ended = finished.ended;
       },

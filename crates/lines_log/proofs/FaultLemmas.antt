@@ -3,7 +3,7 @@ use Rattle.std.proofs.Common.{◌≡◌, ◌≢◌, ◌⊎◌, inl, inr, ℕ, Li
 use Rattle.read_document.specs.declared.refusal.DocError.{DocError}
 use Rattle.read_document.specs.declared.refusal.DocError.TheVariants.{Kind, Law, Long, Missing, NoMemory, NotJson, Range, Shape}
 use Rattle.program_runs.specs.declared.fault.Fault.{Fault}
-use Rattle.read_document.specs.Splits.{IsSplit, lines_of}
+use Rattle.text_lines.specs.Splits.{IsSplit, lines_of}
 use Rattle.read_line.specs.Lines.{Head, head_of}
 use Rattle.lines_log.specs.Faults.{IsBodyFault, IsLinesFault, refused_at}
 use Rattle.lines_log.specs.Logs.{LineRule, rule_in, text_of}

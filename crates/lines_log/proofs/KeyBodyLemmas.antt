@@ -11,7 +11,7 @@ use Rattle.history_thinning.specs.Thinnings.{IsThinnedLog}
 use Rattle.program_runs.specs.declared.fault.Fault.{Fault}
 use Rattle.read_document.specs.declared.refusal.DocError.{DocError}
 use Rattle.read_document.specs.declared.refusal.DocError.TheVariants.{NoMemory}
-use Rattle.read_document.specs.Splits.{IsSplit, lines_of}
+use Rattle.text_lines.specs.Splits.{IsSplit, lines_of}
 use Rattle.read_line.specs.Lines.{Head, head_of}
 use Rattle.lines_log.specs.Faults.{is_end, refused_at}
 use Rattle.lines_log.specs.KeyFaults.{IsKeyedFault, IsKeysBodyFault, IsKeysFault}
@@ -21,12 +21,11 @@ use Rattle.lines_log.specs.inner.KeyReadings.{AreFinished, AreKeysRead, ArePartl
 use Rattle.lines_log.specs.inner.KeyReadings.{IsKeyFinished, IsKeyRead}
 use Rattle.lines_log.specs.inner.KeyReadings.{ReadsKeyedLine}
 use Rattle.lines_log.specs.declared.key_reader.KeyReader.{KeyReader}
-use Rattle.lines_log.specs.declared.keys_log.KeyLog.{KeyLog}
-use Rattle.lines_log.specs.declared.keys_log.KeysLog.{KeysLog}
+use Rattle.kept_lines.specs.declared.keys_log.KeyLog.{KeyLog}
+use Rattle.kept_lines.specs.declared.keys_log.KeysLog.{KeysLog}
 use Rattle.lines_log.specs.declared.keys_reader.KeysReader.{KeysReader}
 use Rattle.lines_log.proofs.BodyLemmas.{end_is, ends_last, last_of_rest, none_left}
 use Rattle.lines_log.proofs.FaultLemmas.{is_memory}
-use Rattle.lines_log.proofs.ReadLemmas.{distinct}
 
 pub keys_begun : (head : Head) (body : List ℕ) (reader : KeysReader) → AreKeysRead head (first_key (lines_of body)) [] reader
     → ArePartlyRead head (lines_of body) false body reader
@@ -83,9 +82,9 @@ register head lines key one read = record {
   records = read.read.records;
   are = subst (λ (b : LineRule). AreLines b (lines_of_key key lines) read.read.records read.read.log) read.limits read.read.are;
   opened = read.read.opened;
-  distinct = distinct read.read.records one.reader.numbering read.read.numbering;
+  distinct = read.read.numbered.distinct;
   turns = read.read.tasks.turn;
-  once = read.read.kept.once;
+  once = read.read.kept.kept.once;
 }
 
 there : {X : Type 0} (rs : List X) (n : ℕ) → n < length rs → (one : X) × (slice_get rs n ≡ Some one)
@@ -143,7 +142,7 @@ key_log head limit ended lines key one log read limit_is finished =
         thinned = subst (λ (n : ℕ). IsThinnedLog n ops log.log.thinned) limit_is (finished.is.thinned ops read.read.kept);
         ops = finished.is.ops ∙ read.read.count;
         unfinished = finished.is.unfinished ∙ read.read.unfinished;
-        count = finished.is.count read.read.records read.read.numbering;
+        count = finished.is.count read.read.records read.read.numbered;
         given = finished.is.given ops read.read.reads;
       },
     )

@@ -12,8 +12,8 @@ use Rattle.history_core.proofs.Places.{get_set_other}
 use Rattle.program_runs.specs.declared.fault.Fault.{Fault}
 use Rattle.read_line.specs.Lines.{Head, head_seen, op_seen}
 use Rattle.read_line.specs.declared.line.LineOp.{LineOp}
-use Rattle.read_line.specs.declared.numbering.Numbering.{Numbering}
-use Rattle.read_line.specs.Numberings.{IsNumbering}
+use Rattle.kept_lines.specs.declared.numbering.Numbering.{Numbering}
+use Rattle.kept_lines.specs.Numberings.{IsNumbering}
 use Rattle.lines_log.specs.KeyFaults.{IsKeyedFault}
 use Rattle.lines_log.specs.Keys.{is_of, key_on, keys_in, lines_of_key, rule_for, with_key}
 use Rattle.lines_log.specs.Logs.{judged_line}

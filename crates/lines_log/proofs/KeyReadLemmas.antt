@@ -1,15 +1,15 @@
 -- One more line of a key is read by the reader of that key, and by no other.
 use Rattle.std.proofs.Common.{◌≡◌, ℕ, List, [], ◌∷◌, ◌++◌, Option, Some, Bool, true, false, refl, ap, sym}
-use Rattle.std.proofs.Common.{◌∙◌, arith}
+use Rattle.std.proofs.Common.{◌∙◌, arith, zero, suc}
 use Rattle.std.proofs.Common.{length, slice_get, subst, ◌<◌, ◌⊎◌, inl, inr, Ok, Err, length-append}
-use Rattle.std.proofs.lemmas.Option.{slice_get_within}
+use Rattle.std.proofs.lemmas.Option.{none-some, same_Some, slice_get_within}
 use Rattle.history_core.proofs.Places.{get_last, get_pushed_cases, get_stays}
 use Rattle.history_core.specs.declared.history.Op.{Op}
 use Rattle.program_runs.specs.declared.fault.Fault.{Fault}
 use Rattle.program_runs.specs.declared.fault.Fault.TheVariants.{NoMemory}
 use Rattle.read_line.specs.Lines.{Head, head_seen}
-use Rattle.read_line.specs.Numberings.{GaveNumber, IsNumbering, MeetsRecord}
-use Rattle.read_line.specs.declared.numbering.Numbering.{Numbering}
+use Rattle.kept_lines.specs.Numberings.{GaveNumber, IsNumbering, MeetsRecord}
+use Rattle.kept_lines.specs.declared.numbering.Numbering.{Numbering}
 use Rattle.lines_log.specs.Faults.{IsLineFault}
 use Rattle.lines_log.specs.KeyFaults.{in_whole}
 use Rattle.lines_log.specs.Keys.{is_met, is_of, lines_of_key, places_of_key, rule_for, with_key}
@@ -64,6 +64,27 @@ key_read_none head lines key reader begun none nowhere = record {
   limits = begun.limits;
   places = begun.places ∙ sym nowhere;
 }
+
+-- no line was read yet, but the key of the first one
+pub keys_none : (head : Head) (key : Option (List ℕ)) (one : KeyReader) (reader : KeysReader) → head_seen reader.header ≡ head
+    → IsNumbering (name_of key ∷ []) reader.numbering → reader.readers.items ≡ one ∷ [] → IsKeyBegun head key one → reader.count ≡ 0
+    → HaveKeys head [] (key ∷ []) reader
+keys_none head key one reader heads numbers readers begun count = record {
+  heads = heads;
+  numbers = numbers;
+  long = ap length readers;
+  each = λ i k r at_k at_r. by i k r at_k (sym (ap (λ (l : List KeyReader). slice_get l i) readers) ∙ at_r);
+  count = count;
+}
+  where
+    by : (i : ℕ) (k : Option (List ℕ)) (r : KeyReader) → slice_get (key ∷ []) i ≡ Some k → slice_get (one ∷ []) i ≡ Some r
+        → IsKeyRead head [] k r
+    by zero k r at_k at_r =
+        let K : key ≡ k = same_Some key k at_k in
+        let O : one ≡ r = same_Some one r at_r in
+        subst (λ (z : KeyReader). IsKeyRead head [] k z) O
+        (key_read_none head [] k one (subst (λ (z : Option (List ℕ)). IsKeyBegun head z one) K begun) refl refl)
+    by (suc i) k r at_k at_r = absurd (none-some k at_k)
 
 -- a fault of the key's own log is told by the lines of the whole text
 pub key_fault : (head : Head) (lines : List (List ℕ)) (key : Option (List ℕ)) (line : List ℕ) (said : Op (List ℕ)) (place : ℕ)

@@ -16,14 +16,16 @@ use Rattle.history_core.specs.declared.reason.SearchError.{SearchError}
 use Rattle.history_thinning.specs.Answers.{IsThinnedFault}
 use Rattle.history_core.proofs.Places.{get_pushed_cases}
 use Rattle.history_core.specs.declared.history.Op.{Op}
-use Rattle.read_line.specs.Numberings.{AreDistinct, IsNumbering}
-use Rattle.read_line.specs.Tasks.{KnowsTasks, Overlap}
-use Rattle.read_line.specs.declared.numbering.Numbering.{Numbering}
+use Rattle.kept_lines.specs.Numberings.{AreDistinct, IsNumbering}
+use Rattle.record_numbers.specs.Numbered.{AreNumbered}
+use Rattle.record_numbers.specs.declared.numbers.RecordNumbers.{RecordNumbers}
+use Rattle.kept_lines.specs.Tasks.{KnowsTasks, Overlap}
+use Rattle.kept_lines.specs.declared.numbering.Numbering.{Numbering}
 use Rattle.read_line.specs.Lines.{has_record, IsAllowed, op_seen}
 use Rattle.read_line.specs.declared.line.LineOp.{LineOp}
 use Rattle.lines_log.specs.Faults.{IsLineFault, IsOverlap, told_of}
-use Rattle.read_line.specs.Reads.{KnowsReads}
-use Rattle.read_line.specs.Places.{line_at}
+use Rattle.kept_lines.specs.Reads.{KnowsReads}
+use Rattle.text_lines.specs.Places.{line_at}
 use Rattle.lines_log.specs.Logs.{AreLines, IsItem, IsNumberedOp, judged_line, LineRule, unfinished_in}
 use Rattle.lines_log.specs.inner.Numbers.{Grow, IsNumberedNow}
 use Rattle.lines_log.specs.inner.Readings.{IsEntryFault, AreRead, rule_of}
@@ -88,21 +90,21 @@ few_unfinished log = count_by-le-length (λ (o : Op ℕ). is_none o.ends) log
 -- an operation was entered
 pub entered : (opening : List ℕ) (lines : List (List ℕ)) (line : List ℕ) (last : Bool) (old new : Reader) (said : Op (List ℕ)) (next : Op ℕ)
     → (read : AreRead opening lines old) → judged_line (rule_of old) (length lines) last line ≡ Ok (Some said) → rule_of new ≡ (rule_of old)
-    → ((records : List (List ℕ)) → IsNumbering records old.numbering → IsNumberedNow records said new.numbering next)
+    → ((records : List (List ℕ)) → AreNumbered records old.numbers → IsNumberedNow records said new.numbers next)
     → (KnowsTasks read.log old.turns → KnowsTasks (read.log ++ next ∷ []) new.turns)
     → (IsThinning read.log old.thinner → IsThinning (read.log ++ next ∷ []) new.thinner)
     → (KnowsReads read.log old.reads → KnowsReads (read.log ++ next ∷ []) new.reads)
     → new.count ≡ old.count + 1 → new.unfinished ≡ old.unfinished + (if is_none next.ends then 1 else 0)
     → AreRead opening (lines ++ line ∷ []) new
 entered opening lines line last old new said next read judged limits numbered turns thins gives count unfinished =
-    let now = numbered read.records read.numbering in
+    let now = numbered read.records read.numbered in
     let are : AreLines (rule_of old) (lines ++ line ∷ []) now.after (read.log ++ next ∷ []) =
     more_lines (rule_of old) lines read.records now.after line last read.log said next read.are now.grows judged now.is in
     record {
       records = now.after;
       log = read.log ++ next ∷ [];
       are = subst (λ (b : LineRule). AreLines b (lines ++ line ∷ []) now.after (read.log ++ next ∷ [])) (sym limits) are;
-      numbering = now.numbers;
+      numbered = now.numbered;
       opened = now.grows 0 opening read.opened;
       tasks = turns read.tasks;
       kept = thins read.kept;
@@ -122,21 +124,21 @@ entry_fault log error f stands (inl none) = inl none
 entry_fault log error f stands (inr told) = inr (error, stands, told)
 
 -- with the operation the log can't be searched
-pub repeated : (opening : List ℕ) (lines : List (List ℕ)) (line : List ℕ) (last : Bool) (old : Reader) (numbering : Numbering)
+pub repeated : (opening : List ℕ) (lines : List (List ℕ)) (line : List ℕ) (last : Bool) (old : Reader) (numbers : RecordNumbers)
     (said : Op (List ℕ)) (next : Op ℕ) (f : Fault) → (read : AreRead opening lines old)
     → judged_line (rule_of old) (length lines) last line ≡ Ok (Some said)
-    → ((records : List (List ℕ)) → IsNumbering records old.numbering → IsNumberedNow records said numbering next)
+    → ((records : List (List ℕ)) → AreNumbered records old.numbers → IsNumberedNow records said numbers next)
     → IsEntryFault (read.log ++ next ∷ []) f → IsLineFault opening (rule_of old) lines line last f
-repeated opening lines line last old numbering said next f read judged numbered (inl none) = inl none
-repeated opening lines line last old numbering said next f read judged numbered (inr fault) =
-    let now = numbered read.records read.numbering in
+repeated opening lines line last old numbers said next f read judged numbered (inl none) = inl none
+repeated opening lines line last old numbers said next f read judged numbered (inr fault) =
+    let now = numbered read.records read.numbered in
     inr (inr (inr (record {
       records = now.after;
       log = read.log ++ next ∷ [];
       error = fault.0;
       are = more_lines (rule_of old) lines read.records now.after line last read.log said next read.are now.grows judged now.is;
       opened = now.grows 0 opening read.opened;
-      distinct = distinct now.after numbering now.numbers;
+      distinct = now.numbered.distinct;
       stands = fault.1;
       told = fault.2;
     })))
@@ -164,14 +166,14 @@ item_there records o op may is counted =
     ∙ counted)
 
 -- an operation overlaps one of its task
-pub overlapped : (opening : List ℕ) (lines : List (List ℕ)) (line : List ℕ) (last : Bool) (old : Reader) (numbering : Numbering)
+pub overlapped : (opening : List ℕ) (lines : List (List ℕ)) (line : List ℕ) (last : Bool) (old : Reader) (numbers : RecordNumbers)
     (said : Op (List ℕ)) (next : Op ℕ) (place first second : ℕ) → (read : AreRead opening lines old)
     → judged_line (rule_of old) (length lines) last line ≡ Ok (Some said)
-    → ((records : List (List ℕ)) → IsNumbering records old.numbering → IsNumberedNow records said numbering next)
+    → ((records : List (List ℕ)) → AreNumbered records old.numbers → IsNumberedNow records said numbers next)
     → Overlap read.log next place → first ≡ line_at place → second ≡ line_at (length read.log)
     → IsOverlap (rule_of old) lines line next.who first second
-overlapped opening lines line last old numbering said next place first second read judged numbered overlap at_first at_second =
-    let now = numbered read.records read.numbering in
+overlapped opening lines line last old numbers said next place first second read judged numbered overlap at_first at_second =
+    let now = numbered read.records read.numbered in
     record {
       records = now.after;
       log = read.log;

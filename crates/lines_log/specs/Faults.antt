@@ -14,10 +14,10 @@ use Rattle.program_runs.specs.declared.fault.Fault.{Fault}
 use Rattle.program_runs.specs.declared.fault.Fault.TheVariants as fault
 use Rattle.program_runs.specs.declared.fault.LinesFault.TheVariants.{Refused, Backwards, Overlaps}
 use Rattle.program_runs.specs.declared.fault.LinesFault.TheVariants.{WritesOpening, WritesTwice}
-use Rattle.read_line.specs.Numberings.{AreDistinct}
-use Rattle.read_document.specs.Splits.{lines_of}
-use Rattle.read_line.specs.Places.{line_at}
-use Rattle.read_line.specs.Tasks.{Overlap, TakeTurns}
+use Rattle.kept_lines.specs.Numberings.{AreDistinct}
+use Rattle.text_lines.specs.Splits.{lines_of}
+use Rattle.text_lines.specs.Places.{line_at}
+use Rattle.kept_lines.specs.Tasks.{Overlap, TakeTurns}
 use Rattle.read_line.specs.Lines.{Head, head_of}
 use Rattle.lines_log.specs.Logs.{AreLines, judged_line, LineRule, rule_in, text_of}
 

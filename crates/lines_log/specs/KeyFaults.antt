@@ -10,8 +10,8 @@ use Rattle.program_runs.specs.declared.fault.Fault.TheVariants as fault
 use Rattle.program_runs.specs.declared.fault.LinesFault.{LinesFault}
 use Rattle.program_runs.specs.declared.fault.LinesFault.TheVariants.{Headless, Refused, Backwards, Overlaps}
 use Rattle.program_runs.specs.declared.fault.LinesFault.TheVariants.{WritesOpening, WritesTwice}
-use Rattle.read_document.specs.Splits.{lines_of}
-use Rattle.read_line.specs.Places.{line_at}
+use Rattle.text_lines.specs.Splits.{lines_of}
+use Rattle.text_lines.specs.Places.{line_at}
 use Rattle.read_line.specs.Lines.{Head, head_of}
 use Rattle.lines_log.specs.Faults.{IsHeaderFault, is_last, IsOverlapped, IsRepeat, refused_at}
 use Rattle.lines_log.specs.Logs.{first_key, judged_line, text_of}

@@ -7,15 +7,15 @@ use Rattle.std.specs.List.{filter, list_any}
 use Rattle.history_core.specs.declared.history.Op.{Op}
 use Rattle.history_core.specs.Searches.{WritesOnce}
 use Rattle.history_thinning.specs.Thinnings.{Equal, IsThinnedLog}
-use Rattle.read_document.specs.Splits.{lines_of}
+use Rattle.text_lines.specs.Splits.{lines_of}
 use Rattle.read_line.specs.Lines.{entry_of, Head, head_of}
-use Rattle.read_line.specs.Numberings.{AreDistinct}
-use Rattle.read_line.specs.Reads.{WereRead}
-use Rattle.read_line.specs.Tasks.{TakeTurns}
+use Rattle.kept_lines.specs.Numberings.{AreDistinct}
+use Rattle.kept_lines.specs.Reads.{WereRead}
+use Rattle.kept_lines.specs.Tasks.{TakeTurns}
 use Rattle.lines_log.specs.Logs.{AreAll, AreLines, first_key, key_said, LineRule, rule_in, same_key, text_of}
 use Rattle.lines_log.specs.Logs.{unfinished_in}
-use Rattle.lines_log.specs.declared.keys_log.KeyLog.{KeyLog}
-use Rattle.lines_log.specs.declared.keys_log.KeysLog.{KeysLog}
+use Rattle.kept_lines.specs.declared.keys_log.KeyLog.{KeyLog}
+use Rattle.kept_lines.specs.declared.keys_log.KeysLog.{KeysLog}
 
 -- the key of the operation on a line, if it has one
 abbrev pub key_on : List ℕ → Option (List ℕ)

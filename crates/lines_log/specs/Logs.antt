@@ -13,11 +13,11 @@ use Rattle.read_document.specs.declared.refusal.DocError.TheVariants.{Law, Missi
 use Rattle.read_document.specs.declared.key.Key.TheVariants as key
 use Rattle.read_document.specs.Refusals.{◌>>=◌}
 use Rattle.history_thinning.specs.Thinnings.{IsThinnedLog}
-use Rattle.lines_log.specs.declared.lines_log.LinesLog.{LinesLog}
-use Rattle.read_line.specs.Numberings.{AreDistinct}
-use Rattle.read_line.specs.Reads.{WereRead}
-use Rattle.read_document.specs.Splits.{lines_of}
-use Rattle.read_line.specs.Tasks.{TakeTurns}
+use Rattle.kept_lines.specs.declared.lines_log.LinesLog.{LinesLog}
+use Rattle.kept_lines.specs.Numberings.{AreDistinct}
+use Rattle.kept_lines.specs.Reads.{WereRead}
+use Rattle.text_lines.specs.Splits.{lines_of}
+use Rattle.kept_lines.specs.Tasks.{TakeTurns}
 use Rattle.read_line.specs.Lines.{LineEntry, operation, done, entry_of, Head, head_of}
 
 -- what the lines behind a header are judged by: whether it has a limit, and the key of the first operation

@@ -6,8 +6,8 @@ ghost use Rattle.lines_log.specs.Faults.{refused_at, told_of};
 use history_core::SearchError;
 use program_runs::{Fault, LinesFault};
 use read_document::{DocError, Key};
-use read_line::line_of;
 use std::alloc::AllocError;
+use text_lines::line_of;
 
 /// How a refusal of this line is told.
 pub fn refused_at(line: usize, why: DocError) -> Fault

@@ -4,19 +4,20 @@ ghost use Rattle.lines_log.specs.KeyFaults.{IsKeysBodyFault, IsKeysFault};
 ghost use Rattle.lines_log.specs.Keys.{IsKeysLog};
 ghost use Rattle.lines_log.specs.Logs.{first_key};
 ghost use Rattle.lines_log.specs.inner.KeyReadings.{AreFinished, AreKeysRead, AreReadWhole, IsKeyFinished};
-ghost use Rattle.read_document.specs.Splits.{lines_of};
+ghost use Rattle.text_lines.specs.Splits.{lines_of};
 ghost use Rattle.read_line.specs.Lines.{Head};
 
 use crate::faults::refused_at;
 use crate::key_name::copied;
 use crate::key_reader::KeyReader;
-use crate::keys_log::{KeyLog, KeysLog};
 use crate::keys_reader::KeysReader;
 use crate::log::{HEADER, finish, first_key, is_end, text_of};
+use kept_lines::{KeyLog, KeysLog};
 use program_runs::Fault;
-use read_document::{DocError, split_line};
+use read_document::DocError;
 use read_line::read_header;
 use std::alloc::{AllocError, Global};
+use text_lines::split_line;
 
 /// What is kept of the log of each key of the operations that the bytes stand for, or the first line at fault.
 pub fn read_keys(alloc: Global, bytes: &[u8]) -> Result<KeysLog, Fault>

@@ -11,9 +11,11 @@ use crate::key_name::{copied, name_of};
 use crate::key_reader::KeyReader;
 use crate::own_line::read_own;
 use crate::reader::Reader;
+use kept_lines::Numbering;
 use program_runs::Fault;
-use read_line::{LineOp, LogHeader, Numbering, line_at};
+use read_line::{LineOp, LogHeader};
 use std::alloc::{AllocError, Global};
+use text_lines::line_at;
 
 /// What was read of a log whose operations have several keys.
 #[derive(Drop)]

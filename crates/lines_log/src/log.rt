@@ -5,17 +5,19 @@ ghost use Rattle.history_core.specs.declared.history.Op.{Op};
 ghost use Rattle.lines_log.specs.Faults.{IsBodyFault, is_end, IsLinesFault};
 ghost use Rattle.lines_log.specs.Logs.{first_key, IsLinesLog, text_of};
 ghost use Rattle.lines_log.specs.inner.Readings.{IsFinished, AreRead, IsReadWhole, rule_of};
-ghost use Rattle.read_line.specs.Numberings.{IsNumbering};
-ghost use Rattle.read_document.specs.Splits.{lines_of};
+ghost use Rattle.record_numbers.specs.Numbered.{AreNumbered};
+ghost use Rattle.text_lines.specs.Splits.{lines_of};
 
 use crate::faults::refused_at;
-use crate::lines_log::LinesLog;
 use crate::reader::Reader;
+use kept_lines::LinesLog;
 use program_runs::Fault;
 use program_streams::ends_in_space;
-use read_document::{DocError, split_line};
-use read_line::{LineOp, LogLine, Numbering, read_header, read_line};
+use read_document::DocError;
+use read_line::{LineOp, LogLine, read_header, read_line};
+use record_numbers::RecordNumbers;
 use std::alloc::{AllocError, Global};
+use text_lines::split_line;
 
 /// The line of the header.
 pub(crate) const HEADER: usize = 1;
@@ -125,14 +127,14 @@ pub(crate) fn finish(
     ensures { IfOk result (IsFinished limit ended reader) }
 {
     let Reader {
-        numbering,
+        numbers,
         thinner,
         count,
         unfinished,
         reads,
         ..
     } = reader;
-    let records = counted(numbering);
+    let records = counted(numbers);
     let read = reads.count();
     let thinned = thinner.finish(alloc, limit)?;
     Ok(LinesLog {
@@ -146,8 +148,8 @@ pub(crate) fn finish(
 }
 
 /// How many records there are.
-fn counted(numbering: Numbering) -> usize
-    ensures { (records : List (List ℕ)) → IsNumbering records numbering → result ≡ length records }
+fn counted(numbers: RecordNumbers) -> usize
+    ensures { (records : List (List ℕ)) → AreNumbered records numbers → result ≡ length records }
 {
-    numbering.count()
+    numbers.count()
 }

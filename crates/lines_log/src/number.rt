@@ -1,17 +1,19 @@
 //! Numbers in place of records.
 ghost use Rattle.std.specs.Prelude.{◌≡◌, ℕ, List, option_map, IfOk, string_bytes};
-ghost use Rattle.read_line.specs.Numberings.{IsNumbering};
+ghost use Rattle.record_numbers.specs.Numbered.{AreNumbered};
 ghost use Rattle.lines_log.specs.inner.Numbers.{IsNumberedNow, IsRecordNow};
 ghost use Rattle.read_line.specs.Lines.{op_seen};
 
 use history_core::Op;
-use read_line::{LineOp, Numbering};
+use read_line::LineOp;
+use record_numbers::RecordNumbers;
 use std::alloc::AllocError;
 
 /// An operation with the number of its record.
-pub(crate) fn number_op(numbering: &mut Numbering, op: LineOp) -> Result<Op<usize>, AllocError>
-    ensures { IfOk result (λ next. (records : List (List ℕ)) → IsNumbering records numbering.old →
-        IsNumberedNow records (op_seen op) numbering.new next) }
+pub fn number_op(numbers: &mut RecordNumbers, op: LineOp) -> Result<Op<usize>, AllocError>
+    requires { (records : List (List ℕ)) × AreNumbered records numbers.old }
+    ensures { IfOk result (λ next. (records : List (List ℕ)) → AreNumbered records numbers.old →
+        IsNumberedNow records (op_seen op) numbers.new next) }
 {
     let LineOp {
         who,
@@ -21,7 +23,7 @@ pub(crate) fn number_op(numbering: &mut Numbering, op: LineOp) -> Result<Op<usiz
         record,
         ..
     } = op;
-    let item = number_record(numbering, record)?;
+    let item = number_record(numbers, record)?;
     Ok(Op {
         who,
         kind,
@@ -32,15 +34,16 @@ pub(crate) fn number_op(numbering: &mut Numbering, op: LineOp) -> Result<Op<usiz
 }
 
 fn number_record(
-    numbering: &mut Numbering,
+    numbers: &mut RecordNumbers,
     text: Option<String>,
 ) -> Result<Option<usize>, AllocError>
-    ensures { IfOk result (λ item. (records : List (List ℕ)) → IsNumbering records numbering.old →
-        IsRecordNow records (option_map string_bytes text) numbering.new item) }
+    requires { (records : List (List ℕ)) × AreNumbered records numbers.old }
+    ensures { IfOk result (λ item. (records : List (List ℕ)) → AreNumbered records numbers.old →
+        IsRecordNow records (option_map string_bytes text) numbers.new item) }
 {
     match text {
         Some(text) => {
-            let number = numbering.number(fitted(text))?;
+            let number = numbers.number(text.as_bytes())?;
             Ok(Some(number))
         }
         None => Ok(None),

@@ -4,8 +4,8 @@ ghost use Rattle.program_runs.specs.declared.fault.Fault.TheVariants.{NoMemory};
 ghost use Rattle.lines_log.specs.KeyFaults.{in_whole, lines_in_whole, whole_line};
 
 use program_runs::{Fault, LinesFault};
-use read_line::line_of;
 use std::alloc::AllocError;
+use text_lines::line_of;
 
 /// A fault of a key's log, whose operations are at these places, by the lines of the whole text. Its one term is never
 /// in the way.

@@ -11,9 +11,12 @@ use crate::line::read_op;
 use crate::number::number_op;
 use crate::thin::{thin, with_unfinished};
 use history_thinning::Thinner;
+use kept_lines::{Reads, TurnError, Turns};
 use program_runs::{Fault, LinesFault};
-use read_line::{LineOp, LogHeader, Numbering, Reads, TurnError, Turns, line_at};
+use read_line::{LineOp, LogHeader};
+use record_numbers::RecordNumbers;
 use std::alloc::{AllocError, Global};
+use text_lines::line_at;
 
 /// What was read of a log.
 #[derive(Drop)]
@@ -22,7 +25,7 @@ pub(crate) struct Reader {
     pub limited: bool,
     /// The key of each operation, if it has one.
     pub key: Option<String>,
-    pub numbering: Numbering,
+    pub numbers: RecordNumbers,
     pub turns: Turns,
     pub thinner: Thinner,
     /// How many operations there were.
@@ -43,11 +46,11 @@ impl Reader {
         ensures none { IfOk result (λ reader. reader.count ≡ 0) }
     {
         let limited = header.limit.is_some();
-        let numbering = Numbering::new(alloc, header.opening)?;
+        let numbers = RecordNumbers::new(alloc, header.opening.as_bytes())?;
         Ok(Reader {
             limited,
             key,
-            numbering,
+            numbers,
             turns: Turns::new(alloc),
             thinner: Thinner::new(alloc),
             count: 0,
@@ -96,7 +99,7 @@ impl Reader {
             IsLineFault opening (rule_of self.old) lines line last fault) }
     {
         let place = self.count;
-        let next = match number_op(&mut self.numbering, op) {
+        let next = match number_op(&mut self.numbers, op) {
             Ok(next) => next,
             Err(_) => return Err(Fault::NoMemory),
         };

@@ -1,4 +1,5 @@
 mod LittleLemmas
+mod LoneLemmas
 mod OnceLemmas
 mod OneKeyLemmas
 pub mod PrintedLemmas

@@ -3,10 +3,10 @@ use Rattle.std.proofs.Common.{◌≡◌, ◌≢◌, ◌≤◌, ℕ, Bool, true, 
 use Rattle.std.specs.Prelude.{◌*◌, ◌||◌, ◌↔◌, nat_lt}
 use Rattle.history_core.specs.declared.thinned.LogAnswer.{LogAnswer}
 use Rattle.history_core.specs.declared.thinned.LogAnswer.TheVariants.{Lawful, Unlawful}
-use Rattle.lines_log.specs.declared.lines_log.LinesLog.{LinesLog}
+use Rattle.kept_lines.specs.declared.lines_log.LinesLog.{LinesLog}
 use Rattle.program_streams.specs.Exits.{status_of as status_at}
 use Rattle.fsr_once_answers.specs.LinesAnswers.{lawful_exit, status_of}
-use Rattle.fsr_once_answers.specs.Text.{shown_text, shows_little}
+use Rattle.print_once.specs.Text.{shown_text, shows_little}
 
 some_words : (x : ℕ) (xs : List ℕ) → x ∷ xs ≢ []
 some_words x xs = λ none. absurd (cc)

@@ -25,7 +25,7 @@ use Rattle.read_line.specs.Lines.{allowed, done, done_in, ends_later, entry_in, 
 use Rattle.read_line.specs.Lines.{head_of, key_in, kind_in, KeyedOp, LineEntry, operation, operation_in, record_in}
 use Rattle.read_line.specs.Records.{record_text}
 use Rattle.read_document.specs.Keys.{name_of}
-use Rattle.read_document.specs.Ranges.{limit_in_range}
+use Rattle.history_fields.specs.Fields.{limit_in_range}
 use Rattle.read_document.specs.Values.{as_whole, optional}
 use Rattle.serde_json.specs.Find.{get}
 use Rattle.std.specs.Option.{option_map_or}

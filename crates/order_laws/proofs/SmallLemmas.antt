@@ -1,16 +1,17 @@
 -- The small log of an unlawful one has a reason of the same rule, and each of its reasons is one of the whole; and its lines rise.
 use Rattle.std.proofs.Common.{◌≡◌, ℕ, ◌+◌, ◌<◌, ◌≤◌, zero, suc, Bool, true, false, List, [], ◌∷◌, ◌++◌, length, map, slice_get}
-use Rattle.std.proofs.Common.{Option, None, Some, ◌⊎◌, inl, inr, refl, sym, ◌∙◌, ap, subst, arith}
+use Rattle.std.proofs.Common.{get_or, take, Option, None, Some, ◌⊎◌, inl, inr, refl, sym, ◌∙◌, ap, subst, arith}
 use Rattle.std.specs.Prelude.{◌==◌, ◌&&◌, ◌||◌, if◌then◌else◌, cond, nat_eq, not}
 use Rattle.std.specs.List.{list_any}
 use Rattle.std.proofs.lemmas.Bool.{cases_lt, cases_order}
 use Rattle.std.proofs.lemmas.Bool.Decides.{nat_tests}
 use Rattle.std.proofs.lemmas.List.{append-nil, length_push}
-use Rattle.std.proofs.lemmas.Option.{same_Some, slice_get_cases, slice_get_within}
-use Rattle.history_core.proofs.Atomic.{IsSearched, of_one, shares}
+use Rattle.std.proofs.lemmas.Option.{get_or_from_slice_get, same_Some, slice_get_cases, slice_get_within}
+use Rattle.history_core.proofs.Atomic.{IsSearched, led, no_early, of_one, shares}
+use Rattle.history_core.proofs.Counts.{count_up, writes_next}
 use Rattle.history_core.proofs.Places.{get_last, get_pushed_cases, get_stays}
-use Rattle.history_core.specs.Orders.{is_write}
-use Rattle.history_core.specs.Reasons.{IsReason, IsUnwritten, OfOneRecord, rule_of}
+use Rattle.history_core.specs.Orders.{is_write, is_write_at, writes_in}
+use Rattle.history_core.specs.Reasons.{IsLimited, IsReason, IsUnwritten, MayHaveFew, OfOneRecord, rule_of}
 use Rattle.history_core.specs.declared.history.Op.{Op}
 use Rattle.history_core.specs.declared.reason.Reason.{Reason}
 use Rattle.history_core.specs.declared.reason.Reason.TheVariants.{Unwritten, Early, Stale, Crossed, Limit}
@@ -20,8 +21,9 @@ use Rattle.history_thinning.specs.Thinnings.{Equal, IsThinnedLog}
 use Rattle.history_thinning.proofs.Reasons.{alike, kept_at, kept_known, place_of, searched, write_kept}
 use Rattle.print_reasons.specs.KeptAt.{kept_at as kept_place}
 use Rattle.print_reasons.specs.Named.{in_kept, is_item, is_named, places_of, same_item, writes_one_of}
-use Rattle.read_line.specs.Places.{line_at}
+use Rattle.text_lines.specs.Places.{line_at}
 use Rattle.small_log.specs.Small.{lines_of, named_of, one_or_none, small_lines, small_ops}
+use Rattle.order_laws.proofs.LoneLemmas.{IsLone, IsSource}
 use Rattle.order_laws.proofs.ToldLemmas.{AreLines}
 
 -- the first place of a number that stands there
@@ -63,13 +65,13 @@ module _ (ops : List (Op ℕ)) (named : List ℕ) where
   still true (Some a) xs i o e = get_stays xs o a i e
   still false x xs i o e = ap (λ z. slice_get z i) (append-nil xs) ∙ e
 
-  -- an operation of the small log is one of the log, and is named there
+  -- an operation of the small log is one of the log, and is named there, behind those named before it
   pub from : (n i : ℕ) (o : Op ℕ) → slice_get (named_of ops named n) i ≡ Some o →
-      (p : ℕ) × (p < n) × (slice_get ops p ≡ Some o) × (is_named ops named p ≡ true)
+      (p : ℕ) × (p < n) × (slice_get ops p ≡ Some o) × (is_named ops named p ≡ true) × (i ≡ length (named_of ops named p))
   from zero i o e = cc
   from (suc n) i o e = elim (one_more (is_named ops named n) (slice_get ops n) (named_of ops named n) i o e) [
-    | inl old ↦ let w = from n i o old in (w.0, let l = w.1 in omega (arith, l), w.2, w.3)
-    | inr new ↦ (n, omega arith, new.1, new.2)
+    | inl old ↦ let w = from n i o old in (w.0, let l = w.1 in omega (arith, l), w.2, w.3, w.4)
+    | inr new ↦ (n, omega arith, new.1, new.2, new.0)
   ]
 
   -- of two the one that stands first stands first in the log
@@ -93,16 +95,19 @@ module _ (ops : List (Op ℕ)) (named : List ℕ) where
             ]
       ]
 
-  -- one that is named is in the small log
+  -- one that is named is in the small log, behind those named before it
   pub has : (n p : ℕ) (o : Op ℕ) → p < n → is_named ops named p ≡ true → slice_get ops p ≡ Some o →
-      (i : ℕ) × (slice_get (named_of ops named n) i ≡ Some o)
+      (i : ℕ) × (slice_get (named_of ops named n) i ≡ Some o) × (i ≡ length (named_of ops named p))
   has zero p o l t e = absurd (omega (arith, l))
   has (suc n) p o l t e = elim (cases_lt p n) [
-    | inl less ↦ let w = has n p o less t e in (w.0, still (is_named ops named n) (slice_get ops n) (named_of ops named n) w.0 o w.1)
+    | inl less ↦
+        let w = has n p o less t e in
+        (w.0, still (is_named ops named n) (slice_get ops n) (named_of ops named n) w.0 o w.1, w.2)
     | inr ge ↦ let s : p ≡ n = omega (arith, l, ge) in (
       length (named_of ops named n),
       last (is_named ops named n) (slice_get ops n) (subst (λ z. is_named ops named z ≡ true) s t) (subst (λ z. slice_get ops z ≡ Some o) s
           e),
+      ap (λ z. length (named_of ops named z)) (sym s),
     )
   ]
     where
@@ -221,6 +226,44 @@ write_named ops named p x o a any e f g t =
     some (k ∷ ks) h = or_cases (nat_eq k p) (list_any (λ q. nat_eq q p) ks) (same_item a.item (slice_get ops k))
         (list_any (λ q. same_item a.item (slice_get ops q)) ks) (same k) (some ks) h
 
+-- of one place: what is named is at it, or the write of its record
+named_one : (ops : List (Op ℕ)) (k p : ℕ) → is_named ops (k ∷ []) p ≡ true →
+    (k ≡ p) ⊎ (writes_one_of ops (k ∷ []) (slice_get ops p) ≡ true)
+named_one ops k p h = by (nat_eq k p) refl h
+  where
+    is_it : (a b : ℕ) → nat_eq a b ≡ true → a ≡ b
+    is_it a b t = grind (arith, nat_tests)
+
+    by : (b : Bool) → nat_eq k p ≡ b → ((b || false) || writes_one_of ops (k ∷ []) (slice_get ops p)) ≡ true →
+        (k ≡ p) ⊎ (writes_one_of ops (k ∷ []) (slice_get ops p) ≡ true)
+    by true t h = inl (is_it k p t)
+    by false t h = inr h
+
+write_of_one : (ops : List (Op ℕ)) (k : ℕ) (o a : Op ℕ) → slice_get ops k ≡ Some o → writes_one_of ops (k ∷ []) (Some a) ≡ true →
+    (is_write a.kind ≡ true) × OfOneRecord Equal o a
+write_of_one ops k o a e h =
+    by (is_write a.kind) a.item o.item refl refl refl (subst (λ z. (is_write a.kind && (same_item a.item z || false)) ≡ true) e h)
+  where
+    is_it : (x y : ℕ) → nat_eq x y ≡ true → y ≡ x
+    is_it x y t = grind (arith, nat_tests)
+
+    or_false : (b : Bool) → (b || false) ≡ true → b ≡ true
+    or_false true t = refl
+    or_false false t = t
+
+    by : (b : Bool) (i k : Option ℕ) → is_write a.kind ≡ b → a.item ≡ i → o.item ≡ k →
+        (b && (same_item i (Some o) || false)) ≡ true → (is_write a.kind ≡ true) × OfOneRecord Equal o a
+    by true None k t f g h = cc
+    by true (Some x) None t f g h =
+        let item : is_item x o.item ≡ true = or_false (is_item x o.item) h in
+        let none : is_item x o.item ≡ false = ap (is_item x) g in
+        cc
+    by true (Some x) (Some y) t f g h =
+        let item : is_item x o.item ≡ true = or_false (is_item x o.item) h in
+        let same : nat_eq x y ≡ true = sym (ap (is_item x) g) ∙ item in
+        (t, of_one Equal o a y x g f (is_it x y same))
+    by false i k t f g h = cc
+
 -- a number is one of these, if it stands among them
 here : (k : ℕ) (xs ys : List ℕ) → list_any (λ q. nat_eq q k) (xs ++ k ∷ ys) ≡ true
 here k [] ys = first (nat_eq k k) (list_any (λ q. nat_eq q k) ys) (itself k)
@@ -254,6 +297,7 @@ module _ (limit : ℕ) (log : List (Op ℕ)) (thinned : Thinned) (is : IsThinned
   in_small : (reason : Reason) (p : ℕ) (o : Op ℕ) → IsKeptAt thinned.places p → slice_get log p ≡ Some o →
       list_any (λ q. nat_eq q (kept_place thinned.places p)) (places_of (in_kept thinned.places reason)) ≡ true →
       (i : ℕ) × (slice_get (small_ops thinned reason) i ≡ Some o)
+      × (i ≡ length (named_of thinned.history.ops (places_of (in_kept thinned.places reason)) (kept_place thinned.places p)))
   in_small reason p o w e t =
       let named = places_of (in_kept thinned.places reason) in
       let k = kept_place thinned.places p in
@@ -494,6 +538,95 @@ module _ (limit : ℕ) (log : List (Op ℕ)) (thinned : Thinned) (is : IsThinned
         },
       )
   reason_of_log reason (Limit refused) r l = absurd (omega (arith, l))
+
+  -- of a limit it has the refused write, and the write of that one's record if it isn't the opening
+  pub lone_small : (refused : ℕ) → IsLimited Equal 0 limit log refused → NamesKept thinned.places (Limit refused) →
+      (i : ℕ) × IsLone limit (small_ops thinned (Limit refused)) i
+  lone_small refused r w = (
+    stood.0,
+    record {
+      op = r.op;
+      at = stood.1;
+      finished = r.finished;
+      refused = r.refused;
+      others = other;
+      source = elim (led Equal 0 log m.order known m.atomic m.entry refused r.op m.listed r.at) [
+        | inr x ↦ inl (x.1, omega (arith, m.few))
+        | inl x ↦ inr (
+          source x.1 x.2 x.3.is x.3.writes x.3.one,
+          let before : x.0 < m.entry = earlier x.0 x.1 x.2 x.3.at x.3.is x.3.writes x.3.up_to in
+              let more = one_before x.0 x.1 x.2 x.3.at x.3.is x.3.writes before in
+              omega (arith, m.few),
+        )
+      ];
+    },
+  )
+    where
+      k : ℕ
+      k = kept_place thinned.places refused
+
+      m : MayHaveFew Equal 0 limit log refused
+      m = r.may
+
+      stood : (i : ℕ) × (slice_get (small_ops thinned (Limit refused)) i ≡ Some r.op)
+          × (i ≡ length (named_of thinned.history.ops (kept_place thinned.places refused ∷ []) (kept_place thinned.places refused)))
+      stood = in_small (Limit refused) refused r.op w r.at (here (kept_place thinned.places refused) [] [])
+
+      other : (j : ℕ) (o : Op ℕ) → slice_get (small_ops thinned (Limit refused)) j ≡ Some o →
+          (j ≡ stood.0) ⊎ ((is_write o.kind ≡ true) × OfOneRecord Equal r.op o)
+      other j o e =
+          let ops = thinned.history.ops in
+          let v = from ops (k ∷ []) (length ops) j o e in
+          elim (named_one ops k v.0 v.3) [
+            | inl same ↦ inl (v.4 ∙ ap (λ z. length (named_of ops (k ∷ []) z)) (sym same) ∙ sym stood.2)
+            | inr t ↦ inr (write_of_one ops k r.op o (at_kept refused r.op w r.at) (ap (writes_one_of ops (k ∷ [])) (sym v.2) ∙ t))
+          ]
+
+      source : (p : ℕ) (a : Op ℕ) → slice_get log p ≡ Some a → is_write a.kind ≡ true → OfOneRecord Equal r.op a →
+          IsSource (small_ops thinned (Limit refused)) r.op
+      source p a e t one =
+          let s = sourced (Limit refused) stood.0 p r.op a stood.1 e t one in
+          let v = of_log (Limit refused) s.0 s.1 s.2 in
+          record {
+            place = s.0;
+            write = s.1;
+            at = s.2;
+            writes = s.3;
+            one = s.4;
+            apart = λ pre. no_early Equal 0 log m.order known m.atomic refused v.0 (record {
+              op = r.op;
+              source = s.1;
+              at = r.at;
+              source_at = v.1;
+              answers = ap is_write r.refused;
+              writes = s.3;
+              one = s.4;
+              precedes = pre;
+            });
+          }
+
+      earlier : (j p : ℕ) (a : Op ℕ) → slice_get m.order j ≡ Some p → slice_get log p ≡ Some a → is_write a.kind ≡ true →
+          j ≤ m.entry → j < m.entry
+      earlier j p a e f t le = elim (cases_lt j m.entry) [
+        | inl less ↦ less
+        | inr ge ↦
+            let s : j ≡ m.entry = omega (arith, le, ge) in
+            let place : p ≡ refused = same_Some p refused (sym e ∙ ap (slice_get m.order) s ∙ m.listed) in
+            let op : a ≡ r.op = same_Some a r.op (sym f ∙ ap (slice_get log) place ∙ r.at) in
+            let g : is_write a.kind ≡ false = ap (λ (z : Op ℕ). is_write z.kind) op ∙ ap is_write r.refused in
+            cc
+      ]
+
+      one_before : (j p : ℕ) (a : Op ℕ) → slice_get m.order j ≡ Some p → slice_get log p ≡ Some a → is_write a.kind ≡ true →
+          j < m.entry → 1 ≤ writes_in (λ _. true) log (take m.entry m.order)
+      one_before j p a e f t less =
+          let next = writes_next log m.order j (slice_get_within m.order j p e) in
+          let here : is_write_at (slice_get log (get_or m.order j 0)) ≡ true =
+          ap (λ z. is_write_at (slice_get log z)) (get_or_from_slice_get m.order j p 0 e) ∙ ap is_write_at f ∙ t in
+          let one : writes_in (λ _. true) log (take (j + 1) m.order) ≡ writes_in (λ _. true) log (take j m.order) + 1 =
+          next ∙ ap (λ b. writes_in (λ _. true) log (take j m.order) + (if b then 1 else 0)) here in
+          let up = count_up (λ q. true && is_write_at (slice_get log q)) m.order (j + 1) m.entry (omega (arith, less)) in
+          omega arith
 
   pub own_lines : (reason : Reason) → AreLines (small_lines thinned reason) (small_ops thinned reason)
   own_lines reason = are_lines thinned.history.ops (places_of (in_kept thinned.places reason)) thinned.places is.kept.long is.kept.rise

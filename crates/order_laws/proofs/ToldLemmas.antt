@@ -20,6 +20,7 @@ use Rattle.history_core.specs.declared.reason.Reason.{Reason}
 use Rattle.history_core.specs.declared.reason.Reason.TheVariants.{Unwritten, Early, Stale, Crossed, Limit}
 use Rattle.history_thinning.specs.Thinnings.{Equal}
 use Rattle.history_thinning.proofs.Reasons.{alike}
+use Rattle.order_laws.proofs.LoneLemmas.{IsLone}
 use Rattle.print_reasons.specs.Named.{is_item}
 use Rattle.small_log.specs.Small.{one_or_none, told_of, told_op, told_ops, told_record, writes}
 
@@ -407,6 +408,36 @@ module _ (lines : List ℕ) (ops : List (Op ℕ)) (are : AreLines lines ops) whe
     ]
   ]
   reason_on limit (Limit refused) r l = absurd (omega (arith, l))
+
+  -- a refused write that stands alone but for the write of its record
+  pub lone_on : (limit place : ℕ) → IsLone limit ops place → IsLone limit (told_ops lines ops) place
+  lone_on limit place lone = record {
+    op = told_op lines ops place lone.op;
+    at = told_at place lone.op lone.at;
+    finished = lone.finished;
+    refused = lone.refused;
+    others = over (λ i z. (i ≡ place) ⊎ ((is_write z.kind ≡ true) × OfOneRecord Equal (told_op lines ops place lone.op) z))
+        (λ i a e. elim (lone.others i a e) [
+          | inl same ↦ inl same
+          | inr w ↦ inr (w.0, one_on place i lone.op a (known_by_write i lone.op a e w.0 w.1) w.1)
+        ]);
+    source = elim lone.source [
+      | inl w ↦ inl (opened_on place lone.op w.0, w.1)
+      | inr w ↦
+          let s = w.0 in
+          inr (
+            record {
+              place = s.place;
+              write = told_op lines ops s.place s.write;
+              at = told_at s.place s.write s.at;
+              writes = s.writes;
+              one = one_on place s.place lone.op s.write (known_by_write s.place lone.op s.write s.at s.writes s.one) s.one;
+              apart = s.apart;
+            },
+            w.1,
+          )
+    ];
+  }
 
   -- ---- and no others
 

@@ -18,7 +18,7 @@ use Rattle.lines_log.specs.Keys.{is_of, lines_of_key, places_from, places_of_key
 use Rattle.print_reasons.specs.KeptAt.{kept_at as kept_place}
 use Rattle.print_reasons.specs.Named.{in_kept, places_of}
 use Rattle.small_log.specs.Small.{lines_of, named_of, small_lines, small_ops, told_ops}
-use Rattle.fsr_once_answers.specs.KeysText.{whole_place, whole_places, whole_reason, whole_thinned}
+use Rattle.print_once.specs.KeysText.{whole_place, whole_places, whole_reason, whole_thinned}
 use Rattle.order_laws.proofs.PrintedLemmas.{unlawful_told}
 use Rattle.order_laws.proofs.SmallLemmas.{are_lines}
 
@@ -154,11 +154,11 @@ module _ (ws : List ℕ) (rise : Rise ws) where
 -- the small log of such operations, whose places in the whole log rise, is unlawful by the same rule
 pub whole_told : (limit : ℕ) (log : List (Op ℕ)) (thinned : Thinned) (ws : List ℕ) (reason : Reason) → IsThinnedLog limit log thinned →
     Rise ws → length ws ≡ length log →
-    IsUnlawful Equal 0 limit (one_term limit) log reason → NamesKept thinned.places reason → rule_of reason < 5 →
+    IsUnlawful Equal 0 limit (one_term limit) log reason → NamesKept thinned.places reason →
     (again : Reason) × (rule_of again ≡ rule_of reason) × IsUnlawful Equal 0 limit (one_term limit)
     (told_ops (small_lines (whole_thinned ws thinned) (whole_reason ws reason))
     (small_ops (whole_thinned ws thinned) (whole_reason ws reason))) again
-whole_told limit log thinned ws reason is rise long unlawful kept less =
+whole_told limit log thinned ws reason is rise long unlawful kept =
     let ops = thinned.history.ops in
     let own = places_of (in_kept thinned.places reason) in
     let places = whole_places ws thinned.places in
@@ -168,7 +168,7 @@ whole_told limit log thinned ws reason is rise long unlawful kept less =
     × IsUnlawful Equal 0 limit (one_term limit)
     (told_ops (lines_of ops named places (length ops)) (named_of ops named (length ops))) again in
     subst P (sym (named_same ws rise thinned.places kept_within reason kept))
-    (unlawful_told limit log thinned is reason (lines_of ops own places (length ops)) lines kept less unlawful)
+    (unlawful_told limit log thinned is reason (lines_of ops own places (length ops)) lines kept unlawful)
   where
     kept_within : (i q : ℕ) → slice_get thinned.places i ≡ Some q → q < length ws
     kept_within i q e = elim (slice_get_cases thinned.history.ops i).1 [

@@ -1,6 +1,6 @@
 -- Logs whose operations have one key (this project's own).
 use Rattle.std.specs.Prelude.{◌≡◌, ℕ, List, ◌∷◌, true, slice_get, Some, Ok}
-use Rattle.read_document.specs.Splits.{lines_of}
+use Rattle.text_lines.specs.Splits.{lines_of}
 use Rattle.read_line.specs.Lines.{entry_of, KeyedOp, operation}
 use Rattle.lines_log.specs.Logs.{first_key, same_key, text_of}
 

@@ -1,6 +1,6 @@
 //! Laws over the definitions.
 
-ghost use Rattle.std.specs.Prelude.{◌≡◌, ◌≢◌, ◌<◌, ◌≤◌, ◌↔◌, ℕ, List, [], Option, Result, false, true};
+ghost use Rattle.std.specs.Prelude.{◌≡◌, ◌≢◌, ◌≤◌, ◌↔◌, ℕ, List, [], Option, Result, false, true};
 ghost use Rattle.std.specs.Prelude.{unwrap_or};
 ghost use Rattle.history_core.specs.Orders.{IsVerdict, KeepsPrecedence};
 ghost use Rattle.history_core.specs.Reasons.{IsReason, rule_of};
@@ -15,8 +15,8 @@ ghost use Rattle.history_thinning.specs.Answers.{NamesKept};
 ghost use Rattle.history_thinning.specs.Thinnings.{Equal, IsThinnedLog, one_term};
 ghost use Rattle.history_thinning.specs.Tasks.{KeepsTasks};
 ghost use Rattle.lines_log.specs.Logs.{IsLinesLog};
-ghost use Rattle.lines_log.specs.declared.keys_log.KeyLog.{KeyLog};
-ghost use Rattle.lines_log.specs.declared.lines_log.LinesLog.{LinesLog};
+ghost use Rattle.kept_lines.specs.declared.keys_log.KeyLog.{KeyLog};
+ghost use Rattle.kept_lines.specs.declared.lines_log.LinesLog.{LinesLog};
 ghost use Rattle.program_runs.specs.declared.fault.Answer.{Answer};
 ghost use Rattle.program_runs.specs.declared.fault.Fault.{Fault};
 ghost use Rattle.program_runs.specs.declared.show.Show.{Show};
@@ -26,10 +26,10 @@ ghost use Rattle.small_log.specs.Small.{small_lines, small_ops, told_ops};
 ghost use Rattle.fsr_log_answers.specs.Logs.{IsLogAnswer};
 ghost use Rattle.fsr_once_answers.specs.ByKeys.{IsAnswerByKeys, IsAnswerIfSmall};
 ghost use Rattle.fsr_once_answers.specs.KeysAnswers.{IsKeyJudged};
-ghost use Rattle.fsr_once_answers.specs.KeysText.{whole_reason, whole_thinned};
+ghost use Rattle.print_once.specs.KeysText.{whole_reason, whole_thinned};
 ghost use Rattle.fsr_once_answers.specs.LinesAnswers.{status_of};
 ghost use Rattle.fsr_once_answers.specs.Once.{IsAnswerOnce};
-ghost use Rattle.fsr_once_answers.specs.Text.{shown_text};
+ghost use Rattle.print_once.specs.Text.{shown_text};
 ghost use Rattle.fsr_order_answers.specs.Order.{IsOrderAnswer};
 ghost use Rattle.order_laws.specs.OneKey.{AreOfOneKey};
 ghost use Rattle.order_laws.specs.Parts.{IsOnceOrNone};
@@ -60,17 +60,16 @@ pub fn strict_by_words()
     ensures unasked { (read : LinesLog) (found : LogAnswer) → status_of false read found ≤ 1 }
 {}
 
-/// The small log of a log that is unlawful for another reason than its limit, as it is printed, is unlawful by the same
-/// rule: the first that any reason has.
+/// The small log of an unlawful log, as it is printed, is unlawful by the same rule: the first that any reason has.
 pub fn small_is_unlawful()
     ensures rule { (limit : ℕ) (log : List (Op ℕ)) (thinned : Thinned) (reason : Reason) →
         IsThinnedLog limit log thinned → IsUnlawful Equal 0 limit (one_term limit) log reason →
-        NamesKept thinned.places reason → rule_of reason < 5 →
+        NamesKept thinned.places reason →
         (again : Reason) × (rule_of again ≡ rule_of reason) × IsUnlawful Equal 0 limit (one_term limit)
         (told_ops (small_lines thinned reason) (small_ops thinned reason)) again }
     ensures none { (limit : ℕ) (log : List (Op ℕ)) (thinned : Thinned) (reason : Reason) →
         IsThinnedLog limit log thinned → IsReason Equal 0 limit log reason →
-        NamesKept thinned.places reason → rule_of reason < 5 →
+        NamesKept thinned.places reason →
         (order : List ℕ) → ¬ IsVerdict Equal 0 (one_term limit)
         (told_ops (small_lines thinned reason) (small_ops thinned reason)) order Lawful }
 {}
@@ -78,7 +77,7 @@ pub fn small_is_unlawful()
 /// So is that of a key whose operations have no lawful order, among those of other keys.
 pub fn small_of_key_is_unlawful()
     ensures { (head : Head) (lines : List (List ℕ)) (key : Option (List ℕ)) (one : KeyLog) (reason : Reason) →
-        IsKeyJudged head lines key one (Unlawful reason) → rule_of reason < 5 →
+        IsKeyJudged head lines key one (Unlawful reason) →
         (again : Reason) × (rule_of again ≡ rule_of reason)
         × IsUnlawful Equal 0 (unwrap_or head.limit 1) (one_term (unwrap_or head.limit 1))
         (told_ops (small_lines (whole_thinned one.places.items one.log.thinned) (whole_reason one.places.items reason))

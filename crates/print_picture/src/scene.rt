@@ -4,7 +4,7 @@ use matrix_core::Stamp;
 use picture_shapes::{Lanes, Visit};
 
 /// What a picture says of its history.
-#[derive(Clone, Copy, Debug, PartialEq, Eq)]
+#[derive(Clone, Copy, PartialEq, Eq)]
 pub enum Finding {
     /// The order is lawful.
     Lawful,

@@ -1,3 +1,2 @@
 pub mod CountLemmas
-mod LostLemmas
 mod PlaceLemmas

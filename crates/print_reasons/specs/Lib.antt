@@ -1,9 +1,5 @@
 pub mod Counts
 pub mod KeptAt
-pub mod Limited
-pub mod Lost
 pub mod Named
 pub mod Sentences
 pub mod Text
-pub mod Together
-pub mod Unsourced

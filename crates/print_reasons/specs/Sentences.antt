@@ -1,5 +1,5 @@
 -- A reason in one sentence, with the times that show it (this project's own).
-use Rattle.std.specs.Prelude.{ℕ, ◌++◌, List, codes, slice_get, unwrap_or, Option}
+use Rattle.std.specs.Prelude.{ℕ, ◌++◌, List, codes, if◌then◌else◌, nat_eq, slice_get, unwrap_or, Option}
 use Rattle.std.specs.Option.{option_and_then, option_map_or}
 use Rattle.std.specs.Fmt.{decimal}
 use Rattle.history_core.specs.declared.history.Op.{Op}
@@ -7,7 +7,7 @@ use Rattle.history_core.specs.declared.reason.Reason.{Reason}
 use Rattle.history_core.specs.declared.reason.Reason.TheVariants.{Unwritten, Early, Stale, Crossed, Limit}
 use Rattle.history_core.specs.Kept.{limit_of}
 use Rattle.history_core.specs.declared.thinned.Thinned.{Thinned}
-use Rattle.read_line.specs.Places.{line_at}
+use Rattle.text_lines.specs.Places.{line_at}
 use Rattle.print_reasons.specs.KeptAt.{kept_at}
 
 -- the kept operation at this place of the log
@@ -43,11 +43,21 @@ stale_text thinned before read =
     number_text (codes "Line ") (line_at read) ++ codes " gave the opening behind an operation of another record: "
     ++ apart_text thinned before read ++ codes ".\n"
 
+-- two lines, which may be one
+abbrev pub two_lines : ℕ → ℕ → List ℕ
+two_lines b c = if nat_eq b c then number_text (codes "line ") (line_at b)
+    else number_text (codes "lines ") (line_at b) ++ number_text (codes " and ") (line_at c)
+
 -- a and d are of one record, b and c of another
+abbrev pub records_text : ℕ → ℕ → ℕ → ℕ → List ℕ
+records_text a b c d =
+    number_text (codes "Lines ") (line_at a) ++ number_text (codes " and ") (line_at d)
+    ++ codes " are of one record, " ++ two_lines b c
+    ++ codes " of another, and each record has to stand before the other: "
+
 abbrev pub crossed_text : Thinned → ℕ → ℕ → ℕ → ℕ → List ℕ
 crossed_text thinned a b c d =
-    codes "Each of two records has to stand before the other: " ++ apart_text thinned a b ++ codes "; "
-    ++ apart_text thinned c d ++ codes ".\n"
+    records_text a b c d ++ apart_text thinned a b ++ codes "; " ++ apart_text thinned c d ++ codes ".\n"
 
 -- so many writes can stand before the first refused write
 abbrev pub limit_text : Thinned → ℕ → ℕ → List ℕ

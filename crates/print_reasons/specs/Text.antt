@@ -9,8 +9,8 @@ use Rattle.history_core.specs.declared.thinned.LogAnswer.{LogAnswer}
 use Rattle.history_core.specs.declared.thinned.LogAnswer.TheVariants.{Lawful, Unlawful as NoOrder}
 use Rattle.history_core.specs.declared.thinned.Thinned.{Thinned}
 use Rattle.print_search.specs.Text.{reason_text}
-use Rattle.read_document.specs.Splits.{lines_of}
-use Rattle.read_line.specs.Places.{line_at}
+use Rattle.text_lines.specs.Splits.{lines_of}
+use Rattle.text_lines.specs.Places.{line_at}
 use Rattle.print_reasons.specs.Named.{in_kept, is_item, is_named, places_of}
 use Rattle.print_reasons.specs.Sentences.{number_text, sentence_text}
 

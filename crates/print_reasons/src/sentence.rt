@@ -2,14 +2,14 @@
 ghost use Rattle.std.specs.Prelude.{◌≡◌, ◌++◌, OnOk, codes};
 ghost use Rattle.print_reasons.specs.Sentences.{apart_text, begin_at, crossed_text, early_text, end_at};
 ghost use Rattle.print_reasons.specs.Sentences.{limit_text, number_text, op_at};
-ghost use Rattle.print_reasons.specs.Sentences.{sentence_text, stale_text, unwritten_text};
-ghost use Rattle.read_line.specs.Places.{line_at};
+ghost use Rattle.print_reasons.specs.Sentences.{records_text, sentence_text, stale_text, two_lines, unwritten_text};
+ghost use Rattle.text_lines.specs.Places.{line_at};
 
 use crate::named::kept_at;
 use history_core::{Op, Reason, Thinned};
 use itoa::Buffer;
-use read_line::line_of;
 use std::alloc::AllocError;
+use text_lines::line_of;
 
 pub(crate) fn push_sentence(
     text: &mut Vec<u8>,
@@ -80,11 +80,45 @@ fn push_crossed(
 ) -> Result<(), AllocError>
     ensures { OnOk result (text.new.items ≡ text.old.items ++ crossed_text thinned.now a b c d) }
 {
-    text.extend_from_slice(b"Each of two records has to stand before the other: ")?;
+    push_records(text, a, b, c, d)?;
     push_apart(text, thinned, a, b)?;
-    text.extend_from_slice(b"; ")?;
+    push_words(text, "; ")?;
     push_apart(text, thinned, c, d)?;
-    text.extend_from_slice(b".\n")
+    push_words(text, ".\n")
+}
+
+/// Which lines are of one record, and which of the other.
+#[tactic(auto, unfolding(crate::specs::Sentences::records_text), using(std::proofs::Common::append_assoc))]
+fn push_records(
+    text: &mut Vec<u8>,
+    a: usize,
+    b: usize,
+    c: usize,
+    d: usize,
+) -> Result<(), AllocError>
+    ensures { OnOk result (text.new.items ≡ text.old.items ++ records_text a b c d) }
+{
+    push_line_of(text, "Lines ", a)?;
+    push_line_of(text, " and ", d)?;
+    push_words(text, " are of one record, ")?;
+    push_two_lines(text, b, c)?;
+    push_words(
+        text,
+        " of another, and each record has to stand before the other: ",
+    )
+}
+
+/// Two lines, which may be one.
+#[tactic(auto, using(std::proofs::Common::append_assoc))]
+fn push_two_lines(text: &mut Vec<u8>, b: usize, c: usize) -> Result<(), AllocError>
+    ensures { OnOk result (text.new.items ≡ text.old.items ++ two_lines b c) }
+{
+    if b == c {
+        push_line_of(text, "line ", b)
+    } else {
+        push_line_of(text, "lines ", b)?;
+        push_line_of(text, " and ", c)
+    }
 }
 
 fn push_limit(
@@ -123,7 +157,7 @@ pub fn push_words(text: &mut Vec<u8>, words: &str) -> Result<(), AllocError>
     text.extend_from_slice(words.as_bytes())
 }
 
-pub(crate) fn push_line_of(text: &mut Vec<u8>, words: &str, place: usize) -> Result<(), AllocError>
+pub fn push_line_of(text: &mut Vec<u8>, words: &str, place: usize) -> Result<(), AllocError>
     ensures { OnOk result (text.new.items ≡ text.old.items ++ number_text words.now (line_at place)) }
 {
     let line = line_of(place)?;

@@ -4,8 +4,8 @@ ghost use Rattle.print_reasons.specs.Sentences.{number_text};
 ghost use Rattle.print_reasons.specs.Text.{body_of, in_lines, lawful_text, line_text, named_text, unlawful_text};
 ghost use Rattle.print_reasons.specs.Text.{verdict_text, write_lines};
 ghost use Rattle.print_reasons.specs.Text.{writes_text};
-ghost use Rattle.read_document.specs.Splits.{lines_of};
-ghost use Rattle.read_line.specs.Places.{line_at};
+ghost use Rattle.text_lines.specs.Splits.{lines_of};
+ghost use Rattle.text_lines.specs.Places.{line_at};
 ghost use Rattle.print_search.specs.Text.{reason_text};
 
 use crate::named::{in_kept, is_named_next, next_of, places_of};
@@ -13,9 +13,8 @@ use crate::sentence::{push_line_of, push_sentence};
 use history_core::{LogAnswer, Op, Reason, Search, Thinned};
 use itoa::Buffer;
 use print_search::search_text;
-use read_document::split_line;
-use read_line::line_of;
 use std::alloc::{AllocError, Global};
+use text_lines::{line_of, split_line};
 
 /// The verdict, and of an unlawful log what shows it.
 pub fn verdict_text(
@@ -54,7 +53,7 @@ pub fn push_writes(text: &mut Vec<u8>, writes: &[usize]) -> Result<(), AllocErro
     text.extend_from_slice(b"\n")
 }
 
-pub(crate) fn push_write_lines(text: &mut Vec<u8>, writes: &[usize]) -> Result<(), AllocError>
+pub fn push_write_lines(text: &mut Vec<u8>, writes: &[usize]) -> Result<(), AllocError>
     ensures { OnOk result (text.new.items ≡ text.old.items ++ write_lines writes.now) }
 {
     for place in writes {
@@ -82,7 +81,7 @@ fn unlawful_text(
     Ok(text)
 }
 
-pub(crate) fn reason_text(alloc: Global, reason: Reason) -> Result<Vec<u8>, AllocError>
+pub fn reason_text(alloc: Global, reason: Reason) -> Result<Vec<u8>, AllocError>
     ensures { IfOk result (λ text. text.items ≡ reason_text (in_lines reason)) }
 {
     let reason = in_lines(reason)?;
@@ -117,7 +116,7 @@ fn in_lines(reason: Reason) -> Result<Reason, AllocError>
 }
 
 /// The lines behind the first one.
-pub(crate) fn body_of(bytes: &[u8]) -> &[u8]
+pub fn body_of(bytes: &[u8]) -> &[u8]
     ensures { lines_of result.now ≡ body_of bytes.now }
 {
     match split_line(bytes) {
@@ -151,7 +150,7 @@ fn push_named(
     Ok(())
 }
 
-pub(crate) fn push_line(text: &mut Vec<u8>, place: usize, line: &[u8]) -> Result<(), AllocError>
+pub fn push_line(text: &mut Vec<u8>, place: usize, line: &[u8]) -> Result<(), AllocError>
     ensures { OnOk result (text.new.items ≡ text.old.items ++ line_text place line.now) }
 {
     let number = line_of(place)?;

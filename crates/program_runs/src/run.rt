@@ -8,7 +8,7 @@ use program_streams::{Exit, InputFault, Sink, Source, read_input, read_rest, tel
 use std::alloc::Global;
 
 /// The name of a program, and the lines that it tells where a stream fails, memory runs out or a thread can't start.
-#[derive(Clone, Copy, Debug)]
+#[derive(Clone, Copy)]
 pub struct Program {
     pub name: &'static str,
     pub read_failed: &'static str,

@@ -3,7 +3,7 @@ ghost use Rattle.std.specs.Prelude.{◌≡◌};
 ghost use Rattle.program_runs.specs.Shows.{budget_of, in_range};
 
 /// What the command `order` prints of a log in lines besides the verdict, and how it judges it.
-#[derive(Clone, Copy, Debug, PartialEq, Eq)]
+#[derive(Clone, Copy, PartialEq, Eq)]
 pub struct Show {
     /// The lines of the writes, in the order that was found.
     pub order: bool,

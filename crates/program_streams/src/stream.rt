@@ -6,7 +6,7 @@ ghost use Rattle.program_streams.specs.Stream.{Counts, HasRoom};
 use std::io;
 
 /// A stream failed.
-#[derive(Clone, Copy, Debug, PartialEq, Eq)]
+#[derive(Clone, Copy, PartialEq, Eq)]
 pub struct Failed;
 
 /// Bytes that come.

@@ -17,7 +17,7 @@ const MOST_TAKEN: usize = 1_048_577;
 const CHUNK: usize = 4096;
 
 /// Why the input was not read.
-#[derive(Clone, Copy, Debug, PartialEq, Eq)]
+#[derive(Clone, Copy)]
 pub enum InputFault {
     Failed,
     NoMemory,

@@ -1,3 +1,2 @@
 pub mod ItemLemmas
 pub mod ReadLemmas
-pub mod SplitLemmas

@@ -3,7 +3,7 @@ use Rattle.std.specs.Prelude.{ℕ, List, [], ◌∷◌, codes, Bool, false, Resu
 use Rattle.serde_json.specs.Data.{Data}
 use Rattle.read_document.specs.declared.refusal.DocError.{DocError}
 use Rattle.read_document.specs.Document.{is_kind, value_of}
-use Rattle.read_document.specs.Splits.{lines_of}
+use Rattle.text_lines.specs.Splits.{lines_of}
 
 abbrev pub says_lines : Result Data DocError → Bool
 says_lines (Ok d) = is_kind (codes "lines") d

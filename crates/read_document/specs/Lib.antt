@@ -2,6 +2,5 @@ pub mod Document
 pub mod Kinds
 pub mod Ranges
 pub mod Refusals
-pub mod Splits
 pub mod Values
 pub mod Keys

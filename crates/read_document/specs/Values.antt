@@ -1,11 +1,7 @@
--- What values of documents stand for: whole numbers, the items of an array, the kind of an
--- operation (this project's own).
-use Rattle.std.specs.Prelude.{ℕ, List, [], ◌∷◌, codes, if◌then◌else◌, Option, Some, None, option_map, option_and_then}
-use Rattle.std.specs.Str.{bytes_eq}
+-- What values of documents stand for: whole numbers and the items of an array (this project's own).
+use Rattle.std.specs.Prelude.{ℕ, List, [], ◌∷◌, Option, Some, None, option_map, option_and_then}
 use Rattle.serde_json.specs.Data.{Data, null, Items, no_items, item}
 use Rattle.serde_json.specs.Find.{as_array, as_number, as_u64}
-use Rattle.history_core.specs.declared.history.Kind.{Kind}
-use Rattle.history_core.specs.declared.history.Kind.TheVariants.{Write, Read, Refused}
 
 -- a whole number, as serde_json reads it
 abbrev pub as_whole : Data → Option ℕ
@@ -17,12 +13,6 @@ list_of (item d ds) = d ∷ list_of ds
 
 abbrev pub as_items : Data → Option (List Data)
 as_items d = option_map list_of (as_array d)
-
-abbrev pub kind_named : List ℕ → Option Kind
-kind_named s =
-    if bytes_eq s (codes "write") then Some Write
-    else (if bytes_eq s (codes "read") then Some Read
-    else (if bytes_eq s (codes "refused") then Some Refused else None))
 
 -- a missing value and null are nothing
 abbrev pub optional : {A : Type 0} → (Data → Option A) → Option Data → Option (Option A)

@@ -2,8 +2,9 @@
 ghost use Rattle.std.specs.Prelude.{◌≡◌, IfOk};
 ghost use Rattle.read_document.specs.Kinds.{are_lines, is_header};
 
-use crate::{DocError, is_kind, read_value, split_line};
+use crate::{DocError, is_kind, read_value};
 use std::alloc::{AllocError, Global};
+use text_lines::split_line;
 
 /// Whether the first line of a document is a header of kind `lines`.
 pub fn are_lines(alloc: Global, bytes: &[u8]) -> Result<bool, AllocError>

@@ -8,14 +8,12 @@ mod kinds;
 mod ranges;
 mod read;
 mod refusal;
-mod split;
 mod value;
 
 pub use fields::{must, number_field, required, shaped};
 pub use key::Key;
 pub use kinds::are_lines;
-pub use ranges::{MAX_OPERATIONS, count_in_range, limit_in_range};
+pub use ranges::{MAX_OPERATIONS, count_in_range};
 pub use read::{is_kind, read_value};
 pub use refusal::DocError;
-pub use split::split_line;
-pub use value::{items_in, kind_of, optional_number, place_in};
+pub use value::{items_in, optional_number, place_in};

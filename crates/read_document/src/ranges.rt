@@ -1,18 +1,9 @@
-//! The ranges that documents of several kinds have.
+//! The range that documents of several kinds have.
 ghost use Rattle.std.specs.Prelude.{◌≡◌};
-ghost use Rattle.read_document.specs.Ranges.{count_in_range, limit_in_range};
-
-use history_core::MAX_LIMIT;
+ghost use Rattle.read_document.specs.Ranges.{count_in_range};
 
 /// The greatest number of operations in a document.
 pub const MAX_OPERATIONS: usize = 10_000;
-
-/// Whether a limit is from 1 to the greatest.
-pub fn limit_in_range(limit: u64) -> bool
-    ensures { result ≡ limit_in_range limit }
-{
-    1 <= limit && limit <= MAX_LIMIT
-}
 
 /// Whether a document may have so many operations.
 pub fn count_in_range(operations: usize) -> bool

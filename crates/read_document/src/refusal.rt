@@ -3,31 +3,38 @@ ghost use Rattle.read_document.specs.declared.refusal.DocError.TheVariants.{NoMe
 
 use crate::Key;
 use std::alloc::AllocError;
-use thiserror::Error;
+use std::fmt;
 
 /// Why a document is refused. The refusals are tested in this order, each over the whole document before the
 /// next one, but want of memory may come at any point. Of several keys with one fault the first in the order
 /// of the kind's keys is named.
-#[derive(Clone, Copy, Debug, PartialEq, Eq, Error)]
+#[derive(Clone, Copy, PartialEq, Eq)]
 pub enum DocError {
-    #[error("longer than 1048576 bytes")]
     Long,
     /// The bytes are not one JSON text, or it nests deeper than 127.
-    #[error("not JSON")]
     NotJson,
     /// The top is no object, or has no text `kind`, or the text is no kind of the command.
-    #[error("kind")]
     Kind,
-    #[error("missing {0}")]
     Missing(Key),
-    #[error("shape of {0}")]
     Shape(Key),
-    #[error("range of {0}")]
     Range(Key),
-    #[error("law of {0}")]
     Law(Key),
-    #[error("out of memory")]
     NoMemory,
+}
+
+impl fmt::Display for DocError {
+    fn fmt<W: fmt::Write>(&self, f: &mut fmt::Formatter<W>) -> fmt::Result {
+        match self {
+            DocError::Long => f.write_str("longer than 1048576 bytes"),
+            DocError::NotJson => f.write_str("not JSON"),
+            DocError::Kind => f.write_str("kind"),
+            DocError::Missing(key) => write!(f, "missing {key}"),
+            DocError::Shape(key) => write!(f, "shape of {key}"),
+            DocError::Range(key) => write!(f, "range of {key}"),
+            DocError::Law(key) => write!(f, "law of {key}"),
+            DocError::NoMemory => f.write_str("out of memory"),
+        }
+    }
 }
 
 impl From<AllocError> for DocError {

@@ -1,10 +1,8 @@
-//! Values that documents of several kinds have: whole numbers, the items of an array, and the kind of an operation.
-ghost use Rattle.std.specs.Prelude.{◌≡◌, codes, map, option_and_then, option_map};
-ghost use Rattle.serde_json.specs.Find.{as_str, get};
+//! Values that documents of several kinds have: whole numbers, and the items of an array.
+ghost use Rattle.std.specs.Prelude.{◌≡◌, map, option_map};
 ghost use Rattle.serde_json.specs.View.{view};
-ghost use Rattle.read_document.specs.Values.{as_items, as_whole, kind_named, optional};
+ghost use Rattle.read_document.specs.Values.{as_items, as_whole, optional};
 
-use history_core::Kind;
 use serde_json::Value;
 
 /// A place, where the value is a whole number.
@@ -38,23 +36,5 @@ pub fn optional_number(value: Option<&Value>) -> Option<Option<u64>>
             Some(number) => Some(Some(number)),
             None => None,
         },
-    }
-}
-
-/// The kind of an operation that is named under its key.
-pub fn kind_of(value: &Value) -> Option<Kind>
-    ensures { result ≡ option_and_then kind_named (option_and_then as_str (get (codes "kind") (view value.now))) }
-{
-    kind_named(value.get("kind")?.as_str()?)
-}
-
-fn kind_named(name: &str) -> Option<Kind>
-    ensures { result ≡ kind_named name.now }
-{
-    match name {
-        "write" => Some(Kind::Write),
-        "read" => Some(Kind::Read),
-        "refused" => Some(Kind::Refused),
-        _ => None,
     }
 }

@@ -8,7 +8,8 @@ use Rattle.history_core.specs.declared.band.Band.{Band}
 use Rattle.history_core.specs.declared.history.Op.{Op}
 use Rattle.history_core.specs.declared.wish.Wish.{Wish}
 use Rattle.history_core.specs.declared.wish.Wish.TheVariants as wish
-use Rattle.read_document.specs.Values.{as_items, as_whole, kind_named, optional}
+use Rattle.history_fields.specs.Fields.{kind_named}
+use Rattle.read_document.specs.Values.{as_items, as_whole, optional}
 
 infixl 10 ◌>>=◌
 abbrev pub ◌>>=◌ : {A B : Type 0} → Option A → (A → Option B) → Option B

@@ -9,9 +9,8 @@ use crate::CheckDocument;
 use crate::history::{are_lawful, one_term, ops_in_range};
 use crate::shape::{field, list_field};
 use history_core::{Band, History, Items, Op};
-use read_document::{
-    DocError, Key, count_in_range, is_kind, limit_in_range, must, read_value, required,
-};
+use history_fields::limit_in_range;
+use read_document::{DocError, Key, count_in_range, is_kind, must, read_value, required};
 use serde_json::Value;
 use std::alloc::Global;
 use std::mem::forget;

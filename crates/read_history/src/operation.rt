@@ -7,7 +7,8 @@ ghost use Rattle.read_history.specs.Shapes.{as_band, as_op};
 
 use crate::shape::{Shape, band_in};
 use history_core::{Band, Op};
-use read_document::{kind_of, optional_number, place_in};
+use history_fields::kind_of;
+use read_document::{optional_number, place_in};
 use serde_json::Value;
 use std::alloc::{AllocError, Global};
 

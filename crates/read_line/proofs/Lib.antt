@@ -1,4 +1,1 @@
 pub mod RecordLemmas
-pub mod NumberLemmas
-pub mod TaskLemmas
-pub mod ReadsLemmas

@@ -14,9 +14,10 @@ use Rattle.read_document.specs.declared.refusal.DocError.{DocError}
 use Rattle.read_document.specs.declared.refusal.DocError.TheVariants.{Law, Range, Shape, Kind as OfKind}
 use Rattle.read_document.specs.declared.key.Key.TheVariants as key
 use Rattle.read_document.specs.Document.{is_kind, value_of}
-use Rattle.read_document.specs.Ranges.{limit_in_range}
+use Rattle.history_fields.specs.Fields.{limit_in_range}
 use Rattle.read_document.specs.Refusals.{◌>>=◌, field, must, required, some_or}
-use Rattle.read_document.specs.Values.{as_whole, kind_named, optional}
+use Rattle.history_fields.specs.Fields.{kind_named}
+use Rattle.read_document.specs.Values.{as_whole, optional}
 use Rattle.read_line.specs.Records.{record_text}
 use Rattle.read_line.specs.declared.line.LogHeader.{LogHeader}
 use Rattle.read_line.specs.declared.line.LogLine.{LogLine}

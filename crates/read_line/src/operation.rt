@@ -9,9 +9,9 @@ ghost use Rattle.read_line.specs.Lines.{key_in, keyed_seen, operation_in, record
 use crate::line::{LineOp, LogLine};
 use crate::record::record_text;
 use history_core::Kind;
+use history_fields::kind_of;
 use read_document::{
-    DocError, Key, is_kind, kind_of, must, number_field, optional_number, read_value, required,
-    shaped,
+    DocError, Key, is_kind, must, number_field, optional_number, read_value, required, shaped,
 };
 use serde_json::Value;
 use std::alloc::Global;

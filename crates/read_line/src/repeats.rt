@@ -3,9 +3,10 @@ ghost use Rattle.std.specs.Prelude.{◌≡◌, IfOk, option_map};
 ghost use Rattle.serde_json.specs.View.{view};
 ghost use Rattle.read_line.specs.Repeats.{has_repeats, is_true, repeats_in, says_repeats};
 
-use read_document::{DocError, is_kind, read_value, split_line};
+use read_document::{DocError, is_kind, read_value};
 use serde_json::Value;
 use std::alloc::{AllocError, Global};
+use text_lines::split_line;
 
 /// Whether the first line of a log is the header of one whose records repeat.
 pub fn has_repeats(alloc: Global, bytes: &[u8]) -> Result<bool, AllocError>

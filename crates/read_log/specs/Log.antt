@@ -12,7 +12,7 @@ use Rattle.read_document.specs.declared.refusal.DocError.TheVariants.{Range, Law
 use Rattle.read_document.specs.declared.key.Key.TheVariants.{Opening, Limit, Ops}
 use Rattle.read_document.specs.Document.{is_kind, value_of}
 use Rattle.read_history.specs.Histories.{is_lawful, one_term, ops_in_range}
-use Rattle.read_document.specs.Ranges.{limit_in_range}
+use Rattle.history_fields.specs.Fields.{limit_in_range}
 use Rattle.read_document.specs.Refusals.{◌>>=◌, field, must, required}
 use Rattle.read_document.specs.Values.{as_whole}
 use Rattle.read_history.specs.Shapes.{as_band, as_op, as_list}

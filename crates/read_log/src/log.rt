@@ -5,7 +5,8 @@ ghost use Rattle.read_log.specs.Log.{CanBeSearched, log_document, log_in, log_of
 ghost use Rattle.serde_json.specs.View.{view};
 
 use history_core::{Band, History, Items, Op};
-use read_document::{DocError, Key, is_kind, limit_in_range, must, read_value, required};
+use history_fields::limit_in_range;
+use read_document::{DocError, Key, is_kind, must, read_value, required};
 use read_history::{are_lawful, field, list_field, one_term, ops_in_range};
 use serde_json::Value;
 use std::alloc::Global;

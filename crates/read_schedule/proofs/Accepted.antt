@@ -14,7 +14,7 @@ use Rattle.matrix_core.specs.declared.schedule.MatrixTerm.{MatrixTerm}
 use Rattle.read_schedule.specs.Players.{CanRace}
 use Rattle.read_schedule.specs.Terms.{single}
 use Rattle.read_schedule.specs.Plans.{are_of, members, plan_fits, plans_fit, plans_in_range, wish_fits, term_in_range, terms_in_range}
-use Rattle.read_document.specs.Ranges.{limit_in_range}
+use Rattle.history_fields.specs.Fields.{limit_in_range}
 use Rattle.read_document.specs.Refusals.{must}
 use Rattle.read_document.specs.declared.refusal.DocError.{DocError}
 

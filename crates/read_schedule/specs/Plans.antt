@@ -6,7 +6,8 @@ use Rattle.history_core.specs.declared.band.Band.{Band}
 use Rattle.history_core.specs.declared.wish.Wish.{Wish}
 use Rattle.history_core.specs.declared.wish.Wish.TheVariants.{Write, Read}
 use Rattle.matrix_core.specs.declared.schedule.MatrixTerm.{MatrixTerm}
-use Rattle.read_document.specs.Ranges.{count_in_range, limit_in_range}
+use Rattle.history_fields.specs.Fields.{limit_in_range}
+use Rattle.read_document.specs.Ranges.{count_in_range}
 use Rattle.read_schedule.specs.Ranges.{steps_in_range}
 
 -- the operations that all plans ask for

@@ -7,7 +7,7 @@ use Rattle.read_document.specs.declared.refusal.DocError.{DocError}
 use Rattle.read_document.specs.declared.refusal.DocError.TheVariants.{Range, Law}
 use Rattle.read_document.specs.declared.key.Key.TheVariants.{Opening, Limit, Scripts}
 use Rattle.read_schedule.specs.Plans.{plans_fit, plans_in_range}
-use Rattle.read_document.specs.Ranges.{limit_in_range}
+use Rattle.history_fields.specs.Fields.{limit_in_range}
 use Rattle.read_document.specs.Refusals.{◌>>=◌, field, must, required}
 use Rattle.read_document.specs.Values.{as_whole}
 use Rattle.read_history.specs.Shapes.{as_band, as_list, as_plan}

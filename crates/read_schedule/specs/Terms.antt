@@ -12,7 +12,7 @@ use Rattle.read_document.specs.declared.key.Key.{Key}
 use Rattle.read_document.specs.declared.key.Key.TheVariants.{Limit, Plans, Steps, Terms}
 use Rattle.read_document.specs.Keys.{name_of}
 use Rattle.read_schedule.specs.Plans.{are_of, plans_in_range, terms_in_range}
-use Rattle.read_document.specs.Ranges.{limit_in_range}
+use Rattle.history_fields.specs.Fields.{limit_in_range}
 use Rattle.read_document.specs.Refusals.{◌>>=◌, field, must, required}
 use Rattle.read_document.specs.Values.{as_whole}
 use Rattle.read_history.specs.Shapes.{as_list, as_plan}

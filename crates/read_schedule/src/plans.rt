@@ -9,8 +9,9 @@ ghost use Rattle.read_schedule.specs.Ranges.{steps_in_range};
 
 use crate::{MAX_STEPS, steps_in_range};
 use history_core::{Band, Items, Wish};
+use history_fields::limit_in_range;
 use matrix_core::MatrixTerm;
-use read_document::{MAX_OPERATIONS, limit_in_range};
+use read_document::MAX_OPERATIONS;
 
 const MIN_PROCESSES: usize = 2;
 

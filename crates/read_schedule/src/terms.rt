@@ -11,8 +11,9 @@ ghost use Rattle.read_schedule.specs.Terms.{terms_in, terms_there, writes_key};
 
 use crate::plans::{are_of, plans_in_range, terms_in_range};
 use history_core::{Band, Items, Wish};
+use history_fields::limit_in_range;
 use matrix_core::MatrixTerm;
-use read_document::{DocError, Key, items_in, limit_in_range, must, required, shaped};
+use read_document::{DocError, Key, items_in, must, required, shaped};
 use read_history::{field, list_field, list_of};
 use serde_json::Value;
 use std::alloc::{AllocError, Global};

@@ -18,7 +18,7 @@ use Rattle.history_core.specs.declared.thinned.LogAnswer.TheVariants.{Lawful, Un
 use Rattle.history_core.specs.declared.thinned.Thinned.{Thinned}
 use Rattle.print_reasons.specs.Named.{in_kept, is_named, places_of}
 use Rattle.print_reasons.specs.Sentences.{number_text}
-use Rattle.read_line.specs.Places.{line_at}
+use Rattle.text_lines.specs.Places.{line_at}
 
 abbrev pub one_or_none : {A : Type 0} → Option A → List A
 one_or_none None = []

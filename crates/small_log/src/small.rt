@@ -4,7 +4,7 @@ ghost use Rattle.std.specs.List.{flat_map, position};
 ghost use Rattle.history_core.specs.declared.history.Op.{Op};
 ghost use Rattle.small_log.specs.Small.{band_text, begin_text, small_document, end_text, kind_text};
 ghost use Rattle.print_reasons.specs.Sentences.{number_text};
-ghost use Rattle.read_line.specs.Places.{line_at};
+ghost use Rattle.text_lines.specs.Places.{line_at};
 ghost use Rattle.small_log.specs.Small.{lines_of, lines_text, named_of, next_text, one_line, one_named};
 ghost use Rattle.small_log.specs.Small.{one_or_none, op_text, ops_text, outcome_text, record_text};
 ghost use Rattle.small_log.specs.Small.{small_lines, small_ops, small_text, task_of};
@@ -12,8 +12,8 @@ ghost use Rattle.small_log.specs.Small.{small_lines, small_ops, small_text, task
 use crate::told::told_ops;
 use history_core::{Kind, LogAnswer, Op, Reason, Thinned};
 use print_reasons::{in_kept, is_named, places_of, push_u64, push_words};
-use read_line::line_of;
 use std::alloc::{AllocError, Global};
+use text_lines::line_of;
 
 /// The small log of an unlawful one, and of a lawful one nothing.
 pub fn small_text(

@@ -184,7 +184,7 @@ const REFUSED: &[(&str, &str)] = &[
     (r#"{"who":0,"kind":"swap"}"#, "line 2: missing begin"),
     (
         r#"{"who":0,"kind":"swap","begin":1,"end":4,"record":5}"#,
-        "line 2: shape of kind",
+        "line 2: shape of kind; a `cas` needs `repeats` in the header, and `done` is the last line",
     ),
     (
         r#"{"who":0,"kind":"maybe","begin":1,"end":9,"record":null}"#,

@@ -68,7 +68,7 @@ fn refuses_logs(rt: HostRuntime) -> Result<(), Fail> {
             r#"
 {"who":0,"kind":"write","begin":1,"end":4,"record":5,"key":"a"}
 {"who":0,"kind":"write","begin":1,"end":4,"record":5}"#,
-            "line 3: law of key",
+            "line 3: law of key; such a log has one key, that of its first operation",
         ),
         (
             r#"
@@ -80,7 +80,7 @@ fn refuses_logs(rt: HostRuntime) -> Result<(), Fail> {
             r#"
 {"kind":"done","ops":0}
 {"who":0,"kind":"write","begin":1,"end":4,"record":5}"#,
-            "line 2: shape of kind",
+            "line 2: shape of kind; a `cas` needs `repeats` in the header, and `done` is the last line",
         ),
     ] {
         assert!(rt; is_told(rt.alloc(), ops, told)?, "{told}");

@@ -54,6 +54,12 @@ const FOUND: &[Found] = &[
         &[1, 0, 2],
     ),
     (2, AT_THE_LIMIT, &[0, 1, 2]),
+    // the later refused write of `IN_TURN` with the write of its record
+    (
+        1,
+        &[op!(Write, 2, Some(3), A), op!(Refused, 4, Some(5), A)],
+        &[0, 1],
+    ),
 ];
 
 const AT_THE_LIMIT: &[Op<u64>] = &[
@@ -151,6 +157,7 @@ const UNLAWFUL: &[Unlawful] = &[
         Reason::Limit { refused: 1 },
     ),
     (3, AT_THE_LIMIT, Reason::Limit { refused: 2 }),
+    (1, IN_TURN, Reason::Limit { refused: 0 }),
     // Each of the two refused writes may be the later one, and then has two writes before it. The earlier one has one.
     (
         2,
@@ -177,6 +184,32 @@ fn is_unlawful(alloc: Global, row: &Unlawful) -> Result<bool, AllocError> {
 fn tells_reasons(rt: HostRuntime) -> Result<(), Fail> {
     for (place, row) in UNLAWFUL.iter().enumerate() {
         assert!(rt; is_unlawful(rt.alloc(), row)?, "row {place}");
+    }
+    Ok(())
+}
+
+/// One after the other. In their only order that keeps listing, precedence and reading the first has no write before
+/// it, and the last has one. So with the limit 1 the last isn't limited, though a refused write before it has too few.
+const IN_TURN: &[Op<u64>] = &[
+    op!(Refused, 0, Some(1), O),
+    op!(Write, 2, Some(3), A),
+    op!(Refused, 4, Some(5), A),
+];
+
+const ORDERS_IN_TURN: &[(&[usize], Verdict)] = &[
+    (&[0, 1, 2], Verdict::Limit),
+    (&[0, 2, 1], Verdict::Precedence),
+    (&[1, 0, 2], Verdict::Precedence),
+    (&[1, 2, 0], Verdict::Precedence),
+    (&[2, 0, 1], Verdict::Precedence),
+    (&[2, 1, 0], Verdict::Precedence),
+];
+
+#[test]
+fn only_order_in_turn(rt: HostRuntime) -> Result<(), Fail> {
+    let history = log(rt.alloc(), Term { first: 0, limit: 1 }, IN_TURN)?;
+    for (place, (order, verdict)) in ORDERS_IN_TURN.iter().enumerate() {
+        assert!(rt; check_order(&history, order) == *verdict, "row {place}");
     }
     Ok(())
 }

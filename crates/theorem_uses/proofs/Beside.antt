@@ -5,7 +5,7 @@ use Rattle.std.proofs.lemmas.Option.{none-some, same_Some, slice_get_within}
 use Rattle.std.specs.Prelude.{◌||◌}
 use Rattle.cell_contract.specs.declared.family.Family.{Ghosts as FamilyWords}
 use Rattle.board_history.specs.BoardRuns.{Did}
-use Rattle.board_history.specs.RunsSoFar.{end_of}
+use Rattle.board_history.specs.BoardRuns.{end_of}
 use Rattle.board_history.proofs.There.{atomic_run}
 use Rattle.board_live.specs.declared.record.Posted.{Posted}
 use Rattle.board_live.specs.Passes.{did_of}

@@ -10,6 +10,7 @@ use Rattle.matrix_core.specs.Lines.{other}
 use Rattle.cell_contract.specs.Intervals.{AreFirst}
 use Rattle.cell_contract.specs.Running.{last_or}
 use Rattle.cell_contract.specs.declared.family.Family.{Ghosts as FamilyWords}
+use Rattle.board_history.proofs.Growing.{not_both}
 use Rattle.board_live.specs.declared.board.Board.{Board}
 use Rattle.board_live.specs.declared.board.Pass.{Pass}
 use Rattle.board_live.specs.declared.record.Posted.{Posted}
@@ -54,12 +55,15 @@ module _ {V F S T : Type 0} (words : FamilyWords F (Posted V) S T) (obeys : V �
   heeds j k told call l ne e = all_there (λ t. IsAtMost t.stamp seen.stamp) (words.reads old.seat j).told k told (call.heeds j l ne) e
 
   pub shows : ShowsItsOwn words obeys board kind old new seen
-  shows j call pass l ne = elim (either call.tells) [
-    | inl told ↦
-        ap (last_or board.first) (call.written told j l ne).items ∙ last_is board.first new.own (words.writes old.seat j).items
-    | inr silent ↦
-        let same = call.unwritten silent in
-        ap (λ w. last_or board.first w.items) (same.0 j) ∙ pass.last j l ne ∙ sym same.1
+  shows j call pass told l ne = elim (either call.tells) [
+    | inl tells ↦
+        ap (last_or board.first) (call.written tells j l ne).items ∙ last_is board.first new.own (words.writes old.seat j).items
+    | inr untold ↦ elim (either call.finds) [
+      | inl finds ↦ absurd (not_both new.told told (call.untold untold finds))
+      | inr silent ↦
+          let same = call.silent untold silent in
+          ap (λ w. last_or board.first w.items) (call.unwritten untold j) ∙ pass.last (sym same.1 ∙ told) j l ne ∙ sym same.0
+    ]
   ]
 
   pub takes_time : TakesTime words obeys board kind old new seen

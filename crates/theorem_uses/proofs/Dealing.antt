@@ -33,11 +33,12 @@ module _ {V F S T : Type 0} (words : FamilyWords F (Posted V) S T) (obeys : V â†
   )
 
   pub writes_to : WritesToShow words obeys
-  writes_to family item to j old new is = (is.own.0, is.own.1, is.access, is.written, is.others.0 j, is.others.1 j)
+  writes_to family item to j old new is =
+      (is.own.0, is.own.1, is.access, is.written, is.others.0 j, is.others.1 j, is.tags.0, is.tags.1)
 
   pub reads_from : ReadsFromShow words obeys
   reads_from family opening from j old new before after is =
-      (is.own.0, is.own.1, is.access, (is.answer, is.read, is.may, is.saw), is.others.0 j, is.others.1 j)
+      (is.own.0, is.own.1, is.access, (is.answer, is.read, is.may, is.saw), is.others.0 j, is.others.1 j, is.tags.0, is.tags.1)
 
 pub steps : StepsShow
 steps width clock clock' times times' old new is =
@@ -73,7 +74,7 @@ known_times s old new begins ends time n k t = (
 
 module _ {V : Type 0} where
   pub unused : UnusedShow V
-  unused clock j times writes reads is = (is.0, is.1, is.2 j, is.3 j)
+  unused clock j times writes reads said found is = (is.0, is.1, is.2 j, is.3 j, is.4, is.5)
 
   pub sources : SourcesShow V
   sources n first did c from = from

@@ -22,4 +22,4 @@ module _ {V F S T : Type 0} (words : FamilyWords F (Posted V) S T) where
   bounds board old new is = (is.each, is.accesses)
 
   pub same : SameShow words
-  same board old new calls has = (has.process, has.own, has.later, has.writes, has.made calls)
+  same board old new calls has = (has.process, has.own, has.told, has.later, has.writes, has.made calls)

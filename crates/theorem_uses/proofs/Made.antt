@@ -6,6 +6,7 @@ use Rattle.std.proofs.lemmas.List.Elements.{All-get_or}
 use Rattle.std.proofs.lemmas.Option.{get_or_from_slice_get, slice_get_within}
 use Rattle.matrix_core.specs.Choices.{IsAtMost}
 use Rattle.cell_contract.specs.Intervals.{IsHeeded}
+use Rattle.cell_contract.specs.Running.{last_or}
 use Rattle.cell_contract.specs.declared.family.Family.{Ghosts as FamilyWords}
 use Rattle.board_history.specs.BoardRuns.{steps_of_call}
 use Rattle.board_live.specs.declared.record.Posted.{Posted}
@@ -24,16 +25,17 @@ none [] e = refl
 none (x ∷ xs) e = absurd (omega (arith, e))
 
 -- the steps of a call of a process of two, over registers of one step
-steps : (tells : Bool) → (steps_of_call 1 2 tells ≡ 1) ⊎ (steps_of_call 1 2 tells ≡ 2)
-steps true = inr refl
-steps false = inl refl
+steps : (tells finds : Bool) → (steps_of_call 1 2 tells finds ≡ 1) ⊎ (steps_of_call 1 2 tells finds ≡ 2)
+steps true finds = inr refl
+steps false true = inr refl
+steps false false = inl refl
 
-one_or_two : (width n old new : ℕ) (tells : Bool) → n ≡ 2 → width ≡ 1 → new ≡ old + steps_of_call width n tells →
+one_or_two : (width n old new : ℕ) (tells finds : Bool) → n ≡ 2 → width ≡ 1 → new ≡ old + steps_of_call width n tells finds →
     (new ≡ old + 1) ⊎ (new ≡ old + 2)
-one_or_two width n old new tells two one e =
-    let is : steps_of_call width n tells ≡ steps_of_call 1 2 tells =
-    ap (λ z. steps_of_call z n tells) one ∙ ap (λ z. steps_of_call 1 z tells) two in
-    elim (steps tells) [
+one_or_two width n old new tells finds two one e =
+    let is : steps_of_call width n tells finds ≡ steps_of_call 1 2 tells finds =
+    ap (λ z. steps_of_call z n tells finds) one ∙ ap (λ z. steps_of_call 1 z tells finds) two in
+    elim (steps tells finds) [
       | inl s ↦ inl (e ∙ ap (λ z. old + z) (is ∙ s))
       | inr s ↦ inr (e ∙ ap (λ z. old + z) (is ∙ s))
     ]
@@ -57,9 +59,17 @@ module _ {V F S T : Type 0} (words : FamilyWords F (Posted V) S T) (obeys : V �
     at_most old.own seen call.rises,
     at_most seen new.own call.onward,
     λ two one. one_or_two words.width board.processes (length (words.times old.seat))
-        (length (words.times new.seat)) call.tells two one call.steps,
+        (length (words.times new.seat)) call.tells call.finds two one call.steps,
     λ h. (
-      record { begin = call.begin; end = call.end; kind = kind; seen = stamped seen; chosen = stamped new.own; tells = call.tells },
+      record {
+        begin = call.begin;
+        end = call.end;
+        kind = kind;
+        seen = stamped seen;
+        chosen = stamped new.own;
+        tells = call.tells;
+        finds = call.finds;
+      },
       call.made [] h,
       refl,
       refl,
@@ -86,7 +96,7 @@ module _ {V F S T : Type 0} (words : FamilyWords F (Posted V) S T) (obeys : V �
     h.seat,
     h.who,
     h.lawful,
-    h.last,
+    λ j l ne. (at_most (last_or board.first (words.writes pass.seat j).items) pass.own (h.below j l ne), λ t. h.last t j l ne),
     h.limit,
     h.made.0,
     h.made.1,

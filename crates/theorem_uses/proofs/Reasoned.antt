@@ -95,6 +95,7 @@ module _ {R : Type 0} where
     h.finished,
     h.refused,
     λ order i atomic at. let f = h.few order atomic i at in (f.early, f.place, f.op, f.up_to, f.listed, f.at, f.refused, f.few),
+    (h.may.order, h.may.entry, h.may.atomic, h.may.listed, h.may.few),
   )
 
   opens : (opening : R) (ops : List (Op R)) (p : ℕ) (a : Op R) → slice_get ops p ≡ Some a → is_write a.kind ≡ true →

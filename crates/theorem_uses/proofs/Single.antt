@@ -69,7 +69,7 @@ module _ {V : Type 0} where
         single times b p.long begun,
         sym (same_Some b e (sym begun ∙ ended)),
         p.written 0 (omega arith),
-        p.silent 0 c refl refl,
+        p.silent 0 c refl refl refl,
       )
 
   second : (first x y : Stamped V) (n : ℕ) → 0 < n → slice_get (first ∷ x ∷ []) n ≡ Some y → y ≡ x

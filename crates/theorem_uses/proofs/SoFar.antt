@@ -15,7 +15,8 @@ use Rattle.matrix_core.specs.Choices.{IsAtMost}
 use Rattle.matrix_core.specs.Listings.{MayPrecede}
 use Rattle.board_history.specs.BoardRuns.{Called, Did}
 use Rattle.board_history.specs.HistoriesSoFar.{IsAtomicRunSoFar, IsOpOfCallSoFar, IsUnchosenCall}
-use Rattle.board_history.specs.RunsSoFar.{end_of, unchosen_begin}
+use Rattle.board_history.specs.BoardRuns.{end_of}
+use Rattle.board_history.specs.RunsSoFar.{unchosen_begin}
 use Rattle.theorem_uses.specs.Boards.{IsOnlyBoardWrite}
 use Rattle.theorem_uses.specs.SoFar.{CallsStandSoFar, StandsSoOften, ReadsThoughOthersStop, RefusesNoneSoFar, RunsSoFarShow}
 use Rattle.theorem_uses.specs.SoFar.{StampsRiseSoFar}

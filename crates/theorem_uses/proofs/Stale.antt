@@ -17,7 +17,8 @@ use Rattle.matrix_core.specs.Stamps.{greater, greatest, is_below, IsBelow}
 use Rattle.matrix_core.proofs.choices.Stamps.{below_itself, below_trans}
 use Rattle.matrix_core.proofs.lists.Elements.{get_exists}
 use Rattle.board_history.specs.BoardRuns.{Called, Did, own_before}
-use Rattle.board_history.specs.RunsSoFar.{end_of, IsBoardRunSoFar, IsProcessSoFar}
+use Rattle.board_history.specs.BoardRuns.{end_of}
+use Rattle.board_history.specs.RunsSoFar.{IsBoardRunSoFar, IsProcessSoFar}
 use Rattle.board_history.proofs.Rising.{own_next}
 use Rattle.board_history.proofs.There.{atomic_run}
 use Rattle.cell_contract.specs.declared.family.Family.{Ghosts as FamilyWords}

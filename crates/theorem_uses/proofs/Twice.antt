@@ -1,5 +1,5 @@
 -- Between two looks no pass changes, so the greatest record is the same; the other consequences are parts of what is shown.
-use Rattle.std.proofs.Common.{◌≡◌, ◌≢◌, ℕ, zero, suc, ◌+◌, ◌<◌, ◌≤◌, List, [], ◌∷◌, ◌++◌, length, map, slice_get, Some, None}
+use Rattle.std.proofs.Common.{◌≡◌, ◌≢◌, Bool, ℕ, zero, suc, ◌+◌, ◌<◌, ◌≤◌, List, [], ◌∷◌, ◌++◌, length, map, slice_get, Some, None}
 use Rattle.std.proofs.Common.{refl, sym, ◌∙◌, ap, subst, ◌⊎◌, inl, inr, arith}
 use Rattle.std.proofs.lemmas.Bool.{cases_eq, cases_order}
 use Rattle.std.proofs.lemmas.Option.{none-some, same_Some, slice_get_within}
@@ -68,7 +68,7 @@ only_opening first x items (suc n) e at = absurd (none-some x (ap (λ z. slice_g
 
 module _ {V F S T : Type 0} where
   own_of : (p q : Pass V F S T) → standing p ≡ standing q → p.own ≡ q.own
-  own_of p q e = ap (λ (z : ℕ × Posted V × S). z.1) e
+  own_of p q e = ap (λ (z : ℕ × Posted V × Bool × S). z.1) e
 
   -- of passes that are the same but for their memory the greatest record is the same
   pub one_greatest : (old new : List (Pass V F S T)) (a b : Posted V) → map standing new ≡ map standing old → IsGreatest old a →

@@ -1,6 +1,6 @@
 -- Consequences of a board's calls and of an ended board, call by call (this project's own).
 use Rattle.std.specs.Prelude.{◌≡◌, ◌≢◌, Bool, IsTrue, ℕ, ◌<◌, List}
-use Rattle.std.specs.Prelude.{◌∷◌, slice_get, Some, Option}
+use Rattle.std.specs.Prelude.{◌∷◌, slice_get, Some, Option, true}
 use Rattle.history_core.specs.declared.history.Kind.{Kind}
 use Rattle.history_core.specs.declared.history.Kind.TheVariants.{Write, Read, Refused}
 use Rattle.history_core.specs.declared.history.Op.{Op}
@@ -88,10 +88,11 @@ module _ {V F S T : Type 0} (words : FamilyWords F (Posted V) S T) where
         j < board.processes → j ≢ old.process → slice_get (words.reads old.seat j).told k ≡ Some told →
         IsAtMost told.stamp seen.stamp
 
-    -- after it the register to each other process has the process's own record last
+    -- after it, if the process's own record is told, the register to each other process has it last
     abbrev pub ShowsItsOwn : Type 0
     ShowsItsOwn = (j : ℕ) → IsCall words obeys board kind old new seen → IsPass words obeys board old →
-        j < board.processes → j ≢ old.process → last_or board.first (words.writes new.seat j).items ≡ new.own
+        new.told ≡ true → j < board.processes → j ≢ old.process →
+        last_or board.first (words.writes new.seat j).items ≡ new.own
 
     -- it took its time after all that its process knew of
     abbrev pub TakesTime : Type 0

@@ -7,6 +7,8 @@ use Rattle.history_core.specs.Others.{other}
 use Rattle.history_core.specs.declared.history.Kind.TheVariants.{Write, Read, Refused}
 use Rattle.matrix_core.specs.Stamps.{first_stamp, IsBelow}
 use Rattle.matrix_core.specs.declared.stamp.Stamped.{Stamped}
+use Rattle.cell_contract.specs.declared.said.Said.{Said}
+use Rattle.cell_contract.specs.declared.said.Found.{Found}
 use Rattle.cell_contract.specs.Accesses.{IsAccess, IsReadAccess, IsUnused, IsWriteAccess, no_reads}
 use Rattle.cell_contract.specs.Accesses.{no_writes, ReadAccesses, RisesAfter}
 use Rattle.cell_contract.specs.Accesses.{WriteAccesses}
@@ -57,18 +59,20 @@ module _ {V F S T : Type 0} (words : FamilyWords F (Posted V) S T) (obeys : V �
   abbrev pub WritesToShow : Type 0
   WritesToShow = (family : F) (item : Posted V) (to j : ℕ) (old new : S) →
       IsWriteTo (words.is_seat family)
-      words.who words.clock words.times words.writes words.reads words.width item to old new →
+      words.who words.clock words.times words.writes words.reads words.said words.found words.width item to old new →
       words.is_seat family new × (words.who new ≡ words.who old)
       × IsAccess words.width (words.clock old) (words.clock new) (words.times old) (words.times new)
       (words.writes old to).times (words.writes new to).times
       × IsWriteAccess (words.writes old to) (words.writes new to) item
       × ((j ≡ to → ⊥) → words.writes new j ≡ words.writes old j)
       × (words.reads new j ≡ words.reads old j)
+      × (words.said new ≡ words.said old) × (words.found new ≡ words.found old)
 
   -- a read of a process is one access of its seat, whose answer is handed on, and adds nothing elsewhere
   abbrev pub ReadsFromShow : Type 0
   ReadsFromShow = (family : F) (opening : Posted V) (from j : ℕ) (old new : S) (before after : List (Posted V)) →
-      IsReadFrom (words.is_seat family) words.who words.clock words.times words.writes words.reads words.width opening
+      IsReadFrom (words.is_seat family)
+      words.who words.clock words.times words.writes words.reads words.said words.found words.width opening
       (λ x. IsTrue (obeys x.item)) Rises (λ last xs x ys. ys ≡ xs ++ x ∷ []) from (old, before) (new, after) →
       words.is_seat family new × (words.who new ≡ words.who old)
       × IsAccess words.width (words.clock old) (words.clock new) (words.times old) (words.times new)
@@ -78,6 +82,7 @@ module _ {V F S T : Type 0} (words : FamilyWords F (Posted V) S T) (obeys : V �
       (words.reads old from).told answer
       × (after ≡ before ++ answer ∷ []))
       × ((j ≡ from → ⊥) → words.reads new j ≡ words.reads old j) × (words.writes new j ≡ words.writes old j)
+      × (words.said new ≡ words.said old) × (words.found new ≡ words.found old)
 
 -- an access takes its steps after all that was known, with which a call begins and ends
 abbrev pub StepsShow : Type 0
@@ -110,10 +115,11 @@ TimesShow = (s old new : Times) (begins ends : List ℕ) (time n k t : ℕ) →
     × (time ≤ new.clock))
 
 module _ (V : Type 0) where
-  -- a seat that is unused has made no step, no write and no read
+  -- a seat that is unused has made no step, no write and no read, and has said and found nothing
   abbrev pub UnusedShow : Type 0
-  UnusedShow = (clock j : ℕ) (times : List ℕ) (writes : ℕ → WriteAccesses V) (reads : ℕ → ReadAccesses V) →
-      IsUnused clock times writes reads → (clock ≡ 0) × (times ≡ []) × (writes j ≡ no_writes) × (reads j ≡ no_reads)
+  UnusedShow = (clock j : ℕ) (times : List ℕ) (writes : ℕ → WriteAccesses V) (reads : ℕ → ReadAccesses V)
+      (said : List Said) (found : List Found) → IsUnused clock times writes reads said found →
+      (clock ≡ 0) × (times ≡ []) × (writes j ≡ no_writes) × (reads j ≡ no_reads) × (said ≡ []) × (found ≡ [])
 
   -- what a call chose is the first record, or that of a write
   abbrev pub SourcesShow : Type 0

@@ -57,6 +57,7 @@ module _ {V F S T : Type 0} (words : FamilyWords F (Posted V) S T) where
   -- where no call was made, the process has its record and its calls, and knows of all that it knew
   abbrev pub SameShow : Type 0
   SameShow = (board : Board V F S T) (old new : Pass V F S T) (calls : List (Called V)) → HasSame words board old new →
-      (new.process ≡ old.process) × (new.own ≡ old.own) × (words.clock old.seat ≤ words.clock new.seat)
+      (new.process ≡ old.process) × (new.own ≡ old.own) × (new.told ≡ old.told)
+      × (words.clock old.seat ≤ words.clock new.seat)
       × ((j : ℕ) → words.writes new.seat j ≡ words.writes old.seat j)
       × (HasMade words board old calls → HasMade words board new calls)

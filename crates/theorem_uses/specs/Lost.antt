@@ -5,7 +5,7 @@ use Rattle.history_core.specs.declared.history.Kind.TheVariants.{Write as WriteK
 use Rattle.matrix_core.specs.Choices.{IsAtMost}
 use Rattle.cell_contract.specs.declared.family.Family.{Ghosts as FamilyWords}
 use Rattle.board_history.specs.BoardRuns.{Called}
-use Rattle.board_history.specs.RunsSoFar.{end_of}
+use Rattle.board_history.specs.BoardRuns.{end_of}
 use Rattle.board_live.specs.declared.board.Board.{Board}
 use Rattle.board_live.specs.declared.board.Pass.{Pass}
 use Rattle.board_live.specs.declared.record.Posted.{Posted}

@@ -7,7 +7,7 @@ use Rattle.matrix_core.specs.declared.stamp.Stamp.{Stamp}
 use Rattle.matrix_core.specs.Stamps.{IsBelow}
 use Rattle.board_history.specs.BoardRuns.{Called, Did}
 use Rattle.board_history.specs.HistoriesSoFar.{IsAtomicRunSoFar}
-use Rattle.board_history.specs.RunsSoFar.{end_of}
+use Rattle.board_history.specs.BoardRuns.{end_of}
 use Rattle.board_live.specs.declared.board.Board.{Board}
 use Rattle.board_live.specs.declared.board.Pass.{Pass}
 use Rattle.board_live.specs.declared.record.Posted.{Posted}

@@ -1,6 +1,6 @@
 -- Consequences of a pass and of a call that was made with it, by their parts (this project's own).
 use Rattle.std.specs.Prelude.{◌≡◌, ◌≢◌, ◌⊎◌, Bool, IsTrue, ℕ, ◌+◌, ◌<◌, ◌≤◌, List, [], ◌∷◌, length}
-use Rattle.std.specs.Prelude.{slice_get, Some, vec_capacity}
+use Rattle.std.specs.Prelude.{slice_get, Some, true, vec_capacity}
 use Rattle.history_core.specs.declared.history.Kind.{Kind}
 use Rattle.matrix_core.specs.Choices.{IsAtMost}
 use Rattle.cell_contract.specs.declared.times.Known.{Known}
@@ -38,8 +38,8 @@ module _ {V F S T : Type 0} (words : FamilyWords F (Posted V) S T) (obeys : V �
       × ((call : Called V) → HasMade words board pass (call ∷ []) → stamped pass.own ≡ call.chosen)
 
   -- a pass is one of 2 to 16 processes of its board, whose seat it has, with room for all seats if it is the
-  -- last one; its own record obeys its law, and each other process was shown it last; and some calls were
-  -- made with it, within the limit
+  -- last one; its own record obeys its law, and each other process was shown no greater one last, and this one if it
+  -- was told; and some calls were made with it, within the limit
   abbrev pub PassesShow : Type 0
   PassesShow = (board : Board V F S T) (pass : Pass V F S T) → IsPass words obeys board pass →
       (2 ≤ board.processes) × (board.processes ≤ 16) × (0 < words.width)
@@ -50,7 +50,8 @@ module _ {V F S T : Type 0} (words : FamilyWords F (Posted V) S T) (obeys : V �
       × (pass.room.items ≡ []) × words.is_seat board.family pass.seat × (words.who pass.seat ≡ pass.process)
       × IsTrue (obeys pass.own.item)
       × ((j : ℕ) → j < board.processes → j ≢ pass.process →
-      last_or board.first (words.writes pass.seat j).items ≡ pass.own)
+      IsAtMost (last_or board.first (words.writes pass.seat j).items).stamp pass.own.stamp
+      × (pass.told ≡ true → last_or board.first (words.writes pass.seat j).items ≡ pass.own))
       × (words.limit board.family ≡ board.limit) × (calls : List (Called V)) × HasMade words board pass calls
 
   -- the passes of all processes stand in the order of their numbers

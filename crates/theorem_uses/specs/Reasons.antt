@@ -50,7 +50,8 @@ module _ (R : Type 0) where
       × (op_a.item ≡ Some x) × (op_d.item ≡ Some x) × (op_b.item ≡ Some y) × (op_c.item ≡ Some y)
       × (x ≢ y) × (x ≢ opening) × (y ≢ opening)
 
-  -- a finished refused write, before which every atomic order has a refused write too early, if it isn't that itself
+  -- a finished refused write, before which every atomic order has a refused write too early, if it isn't that itself;
+  -- and in some atomic order it is
   abbrev pub LimitedShows : Type 0
   LimitedShows = (opening : R) (limit : ℕ) (ops : List (Op R)) (place : ℕ) →
       IsReason (λ x y. x ≡ y) opening limit ops (Limit place) →
@@ -58,6 +59,8 @@ module _ (R : Type 0) where
       × ((order : List ℕ) (i : ℕ) → IsAtomicOrder (λ x y. x ≡ y) opening ops order → slice_get order i ≡ Some place →
       (j : ℕ) × (p : ℕ) × (o : Op R) × (j ≤ i) × (slice_get order j ≡ Some p) × (slice_get ops p ≡ Some o)
       × (o.kind ≡ Refused) × (writes_in (λ _. true) ops (take j order) < limit))
+      × ((order : List ℕ) × (i : ℕ) × IsAtomicOrder (λ x y. x ≡ y) opening ops order × (slice_get order i ≡ Some place)
+      × (writes_in (λ _. true) ops (take i order) < limit))
 
   -- of an answered history no operation ends before it begins, no write has the opening, and no two have one record
   abbrev pub AnsweredHistoriesShow : Type 0

@@ -9,10 +9,10 @@ use Rattle.board_history.specs.BoardRuns.{Answered, Called, Did, IsBoardRun, IsP
 use Rattle.board_history.specs.BoardRuns.{IsRegister, steps_before, Written}
 
 module _ {V : Type 0} where
-  -- a call from one time to another
+  -- a call from one time to another, which finds nothing
   abbrev pub called : ℕ → ℕ → Kind → Stamped V → Stamped V → Bool → Called V
   called begin end kind seen chosen tells =
-      record { begin = begin; end = end; kind = kind; seen = seen; chosen = chosen; tells = tells }
+      record { begin = begin; end = end; kind = kind; seen = seen; chosen = chosen; tells = tells; finds = false }
 
   -- a process that made one call
   abbrev pub one_call : List ℕ → Called V → (ℕ → Written V) → (ℕ → Answered V) → Did V

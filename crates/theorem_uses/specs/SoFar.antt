@@ -9,7 +9,8 @@ use Rattle.matrix_core.specs.Choices.{IsAtMost}
 use Rattle.matrix_core.specs.Lines.{first_record}
 use Rattle.board_history.specs.BoardRuns.{Called, Did, IsRegister}
 use Rattle.board_history.specs.HistoriesSoFar.{IsAtomicRunSoFar}
-use Rattle.board_history.specs.RunsSoFar.{end_of, IsProcessSoFar, unchosen_begin}
+use Rattle.board_history.specs.BoardRuns.{end_of}
+use Rattle.board_history.specs.RunsSoFar.{IsProcessSoFar, unchosen_begin}
 use Rattle.theorem_uses.specs.Boards.{IsOnlyBoardWrite}
 
 -- an operation of the history at this place, with its stamp, which the order lists so often

@@ -5,7 +5,7 @@ use Rattle.matrix_core.specs.declared.stamp.Stamp.{Stamp}
 use Rattle.matrix_core.specs.Stamps.{IsBelow}
 use Rattle.cell_contract.specs.declared.family.Family.{Ghosts as FamilyWords}
 use Rattle.board_history.specs.BoardRuns.{Called}
-use Rattle.board_history.specs.RunsSoFar.{end_of}
+use Rattle.board_history.specs.BoardRuns.{end_of}
 use Rattle.board_live.specs.declared.board.Board.{Board}
 use Rattle.board_live.specs.declared.record.Posted.{Posted}
 use Rattle.board_tasks.specs.declared.lane.Entry.{Entry}

@@ -1,5 +1,5 @@
 //! A board whose tasks don't end: what three processes know of each other's calls at once.
-ghost use Rattle.std.specs.Prelude.{◌≡◌, IfSome, IsTrue};
+ghost use Rattle.std.specs.Prelude.{◌≡◌, true, IfSome, IsTrue};
 ghost use Rattle.board_live.specs.Passes.{IsPass};
 ghost use Rattle.theorem_uses.specs.Passing.{HasHeard, HasMadeNone};
 
@@ -7,8 +7,8 @@ use board_live::{Board, Pass, Posted, RecordLaw};
 use cell_contract::Family;
 use matrix_core::Stamp;
 
-/// q writes and tells p, p tells r, and r reads: r's read begins after q's write had ended, though p has read nothing.
-/// Gives the write's stamp and r's answer, or none where the tags have ended.
+/// q writes and tells p, p tells r, and r reads: r's read begins after q's write had ended, though p has read nothing,
+/// if its own record was told. Gives the write's stamp and r's answer, or none where the tags have ended.
 pub fn pass_on<V: RecordLaw, F: Family<Posted<V>>>(
     board: &Board<V, F>,
     q: &mut Pass<V, F>,
@@ -23,7 +23,7 @@ pub fn pass_on<V: RecordLaw, F: Family<Posted<V>>>(
     ensures q { IsPass ⟦<F as Family<Posted<V>>>⟧ V.obeys board.now q.new × (q.new.process ≡ q.old.process) }
     ensures p { IsPass ⟦<F as Family<Posted<V>>>⟧ V.obeys board.now p.new × (p.new.process ≡ p.old.process) }
     ensures r { IsPass ⟦<F as Family<Posted<V>>>⟧ V.obeys board.now r.new × (r.new.process ≡ r.old.process) }
-    ensures silent { HasMadeNone ⟦<F as Family<Posted<V>>>⟧ board.now p.old p.new }
+    ensures silent { p.old.told ≡ true → HasMadeNone ⟦<F as Family<Posted<V>>>⟧ board.now p.old p.new }
     ensures heard { IfSome result
         (λ x. HasHeard ⟦<F as Family<Posted<V>>>⟧ board.now q.old q.new r.old r.new item x.0 x.1) }
 {

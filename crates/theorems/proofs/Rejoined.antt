@@ -51,6 +51,7 @@ module _ {V F S T : Type 0} (words : FamilyWords F (Posted V) S T) (obeys : V â†
       seen = stamped seen;
       chosen = stamped new.own;
       tells = h.tells;
+      finds = h.finds;
     };
     is = (refl, refl, ap stamped is);
     timed = (h.interval.0, h.interval.1);

@@ -11,12 +11,12 @@ use Rattle.std.proofs.lemmas.Slice.Eq.{bytes_eq-Decides}
 use Rattle.history_core.proofs.Places.{get_last, get_pushed_cases, get_stays}
 use Rattle.object_registers.specs.declared.exchanging.Exchange.{Exchange}
 use Rattle.object_registers.specs.declared.exchanging.Exchange.TheVariants.{Gets, Finds}
-use Rattle.read_line.specs.Numberings.{AreDistinct}
+use Rattle.kept_lines.specs.Numberings.{AreDistinct}
 use Rattle.read_exchange.specs.Exchanges.{exchange_seen, finds, gets, SaidExchange, what_seen}
 use Rattle.read_exchange.specs.declared.line.ExchangeOp.{ExchangeOp}
 use Rattle.exchanges_log.specs.ExchangeLogs.{MeansExchange, texts_of}
 use Rattle.exchanges_log.specs.ExchangeNumbers.{GrowBy}
-use Rattle.watch_lines.specs.Kept.{GotNumber, IsKeptAlone, IsNext, Names, number_in}
+use Rattle.watch_lines.specs.Kept.{KeepsAll, GotNumber, IsKeptAlone, IsNext, Names, number_in}
 use Rattle.watch_lines.specs.Namings.{AreKeptNumbers, AreNamed, exchange_by, GotNumbers, HaveNumbers, IsNamedExchange, IsNamedWhat, Naming}
 use Rattle.watch_lines.specs.declared.records.Records.{Records}
 
@@ -154,6 +154,13 @@ swapped naming m n = record {
 
 -- ---- one record gets its number
 
+keeps_same : (kept : Records) → KeepsAll kept kept
+keeps_same kept = record { more = omega arith; most = refl }
+
+keeps_both : (old mid new : Records) → KeepsAll old mid → KeepsAll mid new → KeepsAll old new
+keeps_both old mid new first last =
+    let a = first.more in let b = last.more in record { more = omega (arith, a, b); most = last.most ∙ first.most }
+
 module _ (all : List (List ℕ)) (naming : Naming) (old : Records) (kept : AreKeptNumbers all naming old) where
   named_known : (text : List ℕ) → AreNamed all naming old (text ∷ []) old
   named_known text = record {
@@ -163,6 +170,7 @@ module _ (all : List (List ℕ)) (naming : Naming) (old : Records) (kept : AreKe
     kept = kept;
     stay = λ t n e. e;
     same = λ n is. refl;
+    keeps = keeps_same old;
   }
 
   -- the next number is for the record that the log has or gets at this place
@@ -186,6 +194,7 @@ module _ (all : List (List ℕ)) (naming : Naming) (old : Records) (kept : AreKe
     };
     stay = stay;
     same = λ j is. same is.0 j is.1;
+    keeps = next.keeps;
   }
     where
       same : (t : List ℕ) (j : ℕ) → number_in old t ≡ Some j → naming.from (swap n (naming.to k) j) ≡ naming.from j
@@ -262,9 +271,10 @@ module _ (all : List (List ℕ)) (naming : Naming) (old : Records) (kept : AreKe
 
 -- a record gets the next number
 pub next_number : (old new : Records) (text : List ℕ) → number_in old text ≡ None → new.next ≡ old.next + 1 →
-    ((other : List ℕ) → number_in new other ≡ update bytes_eq (number_in old) text (Some old.next) other) →
+    ((other : List ℕ) → number_in new other ≡ update bytes_eq (number_in old) text (Some old.next) other) → KeepsAll old new →
     GotNumber old text old.next new
-next_number old new text unknown more updated = inr (record { unknown = unknown; is = refl; next = more; numbers = updated })
+next_number old new text unknown more updated keeps =
+    inr (record { unknown = unknown; is = refl; next = more; numbers = updated; keeps = keeps })
 
 -- the record is known by a text that fits
 pub got_first : (all : List (List ℕ)) (naming : Naming) (text fitted : List ℕ) (n : ℕ) (old new : Records) → fitted ≡ text →
@@ -305,6 +315,7 @@ got_next all naming texts ns text n old mid new got more =
         kept = last.named.kept;
         stay = λ t j e. last.named.stay t j (first.stay t j e);
         same = λ j is. last.named.same j (is.0, first.stay is.0 j is.1) ∙ first.same j is;
+        keeps = keeps_both old mid new first.keeps last.named.keeps;
       };
       have = have_behind new texts ns text n (have_still old mid new last.named.stay texts ns got.have) last.have.0;
     }
@@ -381,6 +392,7 @@ of_none all naming kept are = record {
     kept = are;
     stay = λ t n e. e;
     same = λ n is. refl;
+    keeps = keeps_same kept;
   };
   is = ap Gets (from_zero all naming kept are);
   names = λ n e. (are.opening.0, are.opening.2 ∙ ap Some (sym e));

@@ -2,11 +2,13 @@
 use Rattle.std.proofs.Common.{◌≡◌, ◌≢◌, ℕ, ◌+◌, ◌-◌, ◌^◌, ◌<◌, ◌≤◌, List, [], ◌∷◌, ◌++◌, length, refl, ap, sym, ◌∙◌, subst, arith}
 use Rattle.std.proofs.Common.{Bool, true, false, cond, Option, Some, None, Result, Ok, Err, inl, inr, length-append, max, min, option_map}
 use Rattle.std.proofs.Common.{slice_get}
-use Rattle.std.proofs.Common.{string_bytes}
+use Rattle.std.proofs.Common.{Global, string_bytes}
 use Rattle.std.specs.Prelude.{count_by, if◌then◌else◌, is_none, is_some, nat_lt}
 use Rattle.std.proofs.lemmas.Bool.Decides.{nat_tests}
 use Rattle.std.proofs.lemmas.List.{map-append}
 use Rattle.std.proofs.lemmas.Option.{none-some}
+use Rattle.std.specs.Option.{option_or}
+use Rattle.std.specs.Prelude.{Vec}
 use Rattle.std.proofs.lemmas.List.Sums.{sum_by-append, sum_by-cons}
 use Rattle.object_core.specs.declared.operation.Operation.{Operation}
 use Rattle.object_registers.specs.declared.exchanging.Exchange.{Exchange}
@@ -19,21 +21,24 @@ use Rattle.object_watch.specs.declared.watch.Watch.{Watch}
 use Rattle.object_watch.specs.Remainders.{AreHeldWith, AreLedTo}
 use Rattle.program_runs.specs.declared.fault.Fault.TheVariants.{Undecided}
 use Rattle.read_document.specs.declared.key.Key.TheVariants as keys
-use Rattle.read_document.specs.declared.refusal.DocError.{DocError}
 use Rattle.read_document.specs.declared.refusal.DocError.TheVariants.{Law, Missing}
 use Rattle.read_exchange.specs.Exchanges.{exchange_seen, is_refusal, keyed_seen, KeyedExchange, operation}
 use Rattle.read_exchange.specs.declared.line.ExchangeOp.{ExchangeOp}
 use Rattle.exchanges_log.specs.ExchangeLogs.{is_uncertain, uncertain_in, unfinished_in}
-use Rattle.watch_lines.specs.Kept.{Forgets, IsHeldRecord, IsKeptNumber, IsKeptAlone}
+use Rattle.watch_lines.specs.Kept.{Forgets, IsHeldRecord, IsKeptNumber, IsKeptAlone, KeepsAll}
 use Rattle.watch_lines.specs.Lined.{lined_after, lined_op, without_line}
 use Rattle.watch_lines.specs.Namings.{IsNamedExchange, log_by, Naming, op_by}
-use Rattle.watch_lines.specs.Seen.{bare, below, counts_of, fault_by, fault_of, has_key, HasOperation, higher, key_with, moment_of}
-use Rattle.watch_lines.specs.Seen.{opened_with, refusal_at}
+use Rattle.watch_lines.specs.Seen.{bare, counts_of, early_fault, fault_by, fault_of, has_key, HasOperation, key_with}
+use Rattle.watch_lines.specs.Seen.{opened_with, raised, raised_by, refusal_at, task_fault}
 use Rattle.watch_lines.specs.Seen.{LinesSeen}
 use Rattle.watch_lines.specs.Seen.{with_floor}
-use Rattle.watch_lines.specs.Steps.{EndsAs, IsLawfulTo, opened}
-use Rattle.watch_lines.specs.WatchEntries.{blank, floor, said, watch_entry_of, WatchEntry}
-use Rattle.watch_lines.specs.Watchers.{ForgetsAt, IsRisenBefore, Knows, KnowsIf, KnowsLess, RisesNow, TakesEntry, TakesLine, TakesOperation}
+use Rattle.watch_lines.specs.Replies.{TellsIf}
+use Rattle.watch_lines.specs.Steps.{EndsAs, IsLawfulTo, opened, RisesTo}
+use Rattle.watch_lines.specs.Tasks.{below, floor_of, high_with, higher, is_named, moment_of, own_floor, tasks_with}
+use Rattle.watch_lines.specs.WatchEntries.{floor, said, watch_entry_of}
+use Rattle.watch_lines.specs.WatchHeads.{WatchHead}
+use Rattle.watch_lines.specs.Watchers.{ForgetsAt, ForgetsFrom, IsRisenBefore, Knows, KnowsIf, KnowsLess, RisesAs, RisesNow}
+use Rattle.watch_lines.specs.Watchers.{TakesEntry, TakesLine, TakesOperation}
 use Rattle.watch_lines.specs.inner.CountsOne.{CountsOne}
 use Rattle.watch_lines.proofs.NamingLemmas.{more_by, of_led, of_with, renamed, told_between, told_beyond, told_lawful, told_lost}
 use Rattle.watch_lines.proofs.NamingLemmas.{told_unlawful}
@@ -41,12 +46,13 @@ use Rattle.watch_lines.proofs.NumberLemmas.{kept_alone, opening_stays, same_nami
 use Rattle.watch_lines.specs.declared.lined.Lined.{Lined}
 use Rattle.watch_lines.specs.declared.lined.LinedRegister.{LinedRegister}
 use Rattle.watch_lines.specs.declared.records.Records.{Records}
+use Rattle.watch_lines.specs.declared.tasks.Task.{Task}
 use Rattle.watch_lines.specs.declared.told.Counts.{Counts}
 use Rattle.watch_lines.specs.declared.told.Floor.{Floor}
 use Rattle.watch_lines.specs.declared.told.Told.{Told}
 use Rattle.watch_lines.specs.declared.told.Told.TheVariants.{Lawful, Lost}
 use Rattle.watch_lines.specs.declared.told.WatchFault.{WatchFault}
-use Rattle.watch_lines.specs.declared.told.WatchFault.TheVariants.{Refused}
+use Rattle.watch_lines.specs.declared.told.WatchFault.TheVariants.{Below, Refused}
 use Rattle.watch_lines.specs.declared.watcher.Step.{Step}
 use Rattle.watch_lines.specs.declared.watcher.Step.TheVariants.{GoesOn, Stops}
 use Rattle.watch_lines.specs.declared.watcher.Watcher.{Watcher}
@@ -93,6 +99,7 @@ rises_open s w watch high k led h = (
     };
     moment = h.0;
     key = k.key;
+    tasks = k.tasks;
     high = refl;
     counts = k.counts;
     ended = k.ended;
@@ -129,20 +136,21 @@ rises_beyond s w high at k h = λ other. (
 -- ---- what is kept
 
 -- behind a header
-pub knows_opened : (opening : List ℕ) (w : Watcher) → w.lines ≡ 1 → IsKeptAlone opening w.records →
+pub knows_opened : (head : WatchHead) (w : Watcher) → w.lines ≡ 1 → IsKeptAlone head.opening w.records →
     IsWatchOf lined_after opened [] w.watch →
-    w.watch.moment ≡ 0 → AreOpenedAs opened w.watch.held.items → w.key ≡ None → w.high ≡ None →
-    w.counts ≡ record { ops = 0; unfinished = 0; uncertain = 0; floors = 0 } → w.ended ≡ None → Knows (opened_with opening) w
-knows_opened opening w lines records watch moment held key high counts ended = record {
+    w.watch.moment ≡ 0 → AreOpenedAs opened w.watch.held.items → w.key ≡ None → w.tasks.items ≡ head.tasks → w.high ≡ None →
+    w.counts ≡ record { ops = 0; unfinished = 0; uncertain = 0; floors = 0 } → w.ended ≡ None → Knows (opened_with head) w
+knows_opened head w lines records watch moment held key tasks high counts ended = record {
   lines = lines;
   follows = record {
     naming = same_naming;
-    records = kept_alone opening w.records records;
-    held = λ n is. (opening, records.known ∙ ap Some (sym (none n is)));
+    records = kept_alone head.opening w.records records;
+    held = λ n is. (head.opening, records.known ∙ ap Some (sym (none n is)));
     is = watch;
   };
   moment = moment;
   key = ap (option_map (option_map string_bytes)) key;
+  tasks = tasks;
   high = high;
   counts = counts;
   ended = ended;
@@ -176,6 +184,7 @@ knows_less s w less k forgets = record {
   };
   moment = k.moment;
   key = k.key;
+  tasks = k.tasks;
   high = k.high;
   counts = k.counts;
   ended = k.ended;
@@ -186,21 +195,84 @@ knows_less s w less k forgets = record {
 abbrev pub floored : LinesSeen → LinesSeen
 floored s = record s { lines = s.lines + 1; floors = s.floors + 1 }
 
-no_floor_fault : (s : LinesSeen) (at : ℕ) → s.ended ≡ None → fault_of s (Ok (floor at)) ≡ None
-no_floor_fault s at before = ap (λ (e : Option ℕ). fault_by e s (Ok (floor at))) before
+no_floor_fault : (s : LinesSeen) (who : Option ℕ) (at : ℕ) → s.ended ≡ None → is_named s.tasks who ≡ true →
+    fault_of s (Ok (floor who at)) ≡ None
+no_floor_fault s who at before named =
+    ap (λ (e : Option ℕ). fault_by e s (Ok (floor who at))) before
+    ∙ ap (λ (b : Bool). if b then None else Some (refusal_at (s.lines + 1) (Law keys.Who))) named
 
-rises_as : (s : LinesSeen) (at : ℕ) (step : Step) → s.ended ≡ None → RisesNow (floored s) (higher s.high at (s.lines + 1)) step →
-    TakesEntry s (Ok (floor at)) step
-rises_as s at (GoesOn w) before h = (with_floor s at, (no_floor_fault s at before, refl, h.1), h.0)
-rises_as s at (Stops (Ok told)) before h = inr (no_floor_fault s at before, with_floor s at, refl, h)
-rises_as s at (Stops (Err fault)) before h = λ other. inr (no_floor_fault s at before, with_floor s at, refl, h other)
+pub takes_floor : (s : LinesSeen) (who : Option ℕ) (at : ℕ) (step : Step) → s.ended ≡ None → is_named s.tasks who ≡ true →
+    RisesAs (floored s) (with_floor s who at) step → TakesEntry s (Ok (floor who at)) step
+takes_floor s who at (GoesOn w) before named h =
+    (with_floor s who at, (no_floor_fault s who at before named, refl, h.1), h.0)
+takes_floor s who at (Stops (Ok told)) before named h =
+    inr (no_floor_fault s who at before named, with_floor s who at, refl, h)
+takes_floor s who at (Stops (Err fault)) before named h = λ other.
+    inr (no_floor_fault s who at before named, with_floor s who at, refl, h other)
 
-pub rises_floor : (s : LinesSeen) (w : Watcher) (at line : ℕ) (high : Option Floor) (step : Step) → Knows s w → s.ended ≡ None →
-    line ≡ s.lines + 1 → high ≡ higher w.high at line → RisesNow (floored s) high step → TakesEntry s (Ok (floor at)) step
-rises_floor s w at line high step k before next is h =
-    let e : high ≡ higher s.high at (s.lines + 1) =
-    is ∙ ap (λ (f : Option Floor). higher f at line) k.high ∙ ap (λ (n : ℕ). higher s.high at n) next in
-    rises_as s at step before (subst (λ (f : Option Floor). RisesNow (floored s) f step) e h)
+-- a floor of a task that isn't named
+pub refuses_floor : (s : LinesSeen) (w : Watcher) (who : Option ℕ) (at line : ℕ) → Knows s w → s.ended ≡ None → line ≡ s.lines + 1 →
+    is_named w.tasks.items who ≡ false → TakesEntry s (Ok (floor who at)) (Stops (Err (refusal_at line (Law keys.Who))))
+refuses_floor s w who at line k before next other = λ memory. inl (
+  refusal_at line (Law keys.Who),
+  ap (λ (e : Option ℕ). fault_by e s (Ok (floor who at))) before
+      ∙ (ap (λ (b : Bool). if b then None else Some (refusal_at (s.lines + 1) (Law keys.Who)))
+      (ap (λ (ts : List Task). is_named ts who) (sym k.tasks) ∙ other)
+      ∙ ap (λ (n : ℕ). Some (refusal_at n (Law keys.Who))) (sym next)),
+  refl,
+)
+
+-- the tasks' floors are known, and then that of all rises
+pub raised_as : (s : LinesSeen) (w : Watcher) (who : Option ℕ) (at : ℕ) (tasks : List Task) (high : Option Floor) (step : Step) →
+    Knows s w → tasks ≡ tasks_with w.tasks.items who at w.lines → high ≡ high_with w.tasks.items w.high who at w.lines →
+    RisesNow (record s { tasks = tasks }) high step → RisesAs s (raised s who at) step
+raised_as s w who at tasks high step k tasks_are high_is h =
+    let these : tasks ≡ tasks_with s.tasks who at s.lines =
+    tasks_are ∙ (ap (λ (ts : List Task). tasks_with ts who at w.lines) k.tasks
+    ∙ ap (λ (n : ℕ). tasks_with s.tasks who at n) k.lines) in
+    let this : high ≡ high_with s.tasks s.high who at s.lines =
+    high_is ∙ (ap (λ (ts : List Task). high_with ts w.high who at w.lines) k.tasks
+    ∙ (ap (λ (f : Option Floor). high_with s.tasks f who at w.lines) k.high
+    ∙ ap (λ (n : ℕ). high_with s.tasks s.high who at n) k.lines)) in
+    let P : List Task → Type 0 = λ ts. RisesAs s (record s { tasks = ts; high = high }) step in
+    let Q : Option Floor → Type 0 = λ f. RisesAs s (record s { tasks = tasks_with s.tasks who at s.lines; high = f }) step in
+    subst Q this (subst P these (only_tasks s tasks high step h))
+  where
+    only_tasks : (s : LinesSeen) (tasks : List Task) (high : Option Floor) (step : Step) →
+        RisesNow (record s { tasks = tasks }) high step → RisesAs s (record s { tasks = tasks; high = high }) step
+    only_tasks s tasks high (GoesOn w) h = h
+    only_tasks s tasks high (Stops reply) h = h
+
+-- with other floors of tasks
+pub knows_tasks : (s : LinesSeen) (w : Watcher) (tasks : Vec Task Global) → Knows s w →
+    Knows (record s { tasks = tasks.items }) (record w { tasks = tasks })
+knows_tasks s w tasks k = record {
+  lines = k.lines;
+  follows = k.follows;
+  moment = k.moment;
+  key = k.key;
+  tasks = refl;
+  high = k.high;
+  counts = k.counts;
+  ended = k.ended;
+}
+
+-- and where that of all doesn't rise
+pub rises_not : (s : LinesSeen) (w : Watcher) (high : Option Floor) → Knows s w → moment_of high ≡ moment_of w.high →
+    RisesNow s high (GoesOn (record w { high = high }))
+rises_not s w high k same = (
+  record {
+    lines = k.lines;
+    follows = k.follows;
+    moment = k.moment ∙ (sym (ap moment_of k.high) ∙ sym same);
+    key = k.key;
+    tasks = k.tasks;
+    high = refl;
+    counts = k.counts;
+    ended = k.ended;
+  },
+  let old = ap moment_of k.high in λ less. absurd (omega (arith, less, same, old)),
+)
 
 -- one floor more is counted
 pub knows_floored : (s : LinesSeen) (w : Watcher) (line floors : ℕ) → Knows s w → line ≡ s.lines + 1 → floors ≡ w.counts.floors + 1 →
@@ -210,6 +282,7 @@ knows_floored s w line floors k next more = record {
   follows = k.follows;
   moment = k.moment;
   key = k.key;
+  tasks = k.tasks;
   high = k.high;
   counts =
       let count : floors ≡ s.floors + 1 = more ∙ ap (λ (c : Counts). c.floors + 1) k.counts in
@@ -230,6 +303,7 @@ knows_any s w line floors k more =
       follows = k.follows;
       moment = k.moment;
       key = k.key;
+      tasks = k.tasks;
       high = k.high;
       counts = known.counts;
       ended = k.ended;
@@ -238,29 +312,29 @@ knows_any s w line floors k more =
 pub rises_later : (before m n old new : ℕ) → before ≡ old → m ≡ new → n ≡ old → m ≢ n → old ≤ new → before < new
 rises_later before m n old new at e f other le = omega (arith, at, e, f, other, le)
 
-pub below_high : (high : Option Floor) (at line : ℕ) → moment_of high ≤ moment_of (higher high at line)
-below_high None at line = omega arith
-below_high (Some f) at line = by_test (nat_lt f.at at) refl
+pub no_lower : (high : Option Floor) (at line : ℕ) → moment_of high ≤ moment_of (higher high at line)
+no_lower None at line = omega arith
+no_lower (Some f) at line = by_test (nat_lt f.at at) refl
   where
     by_test : (b : Bool) → nat_lt f.at at ≡ b → f.at ≤ moment_of (higher (Some f) at line)
     by_test true e = rw e (let less : f.at < at = grind (arith, nat_tests) in omega (arith, less))
     by_test false e = rw e (omega arith)
 
--- one behind the end doesn't rise
-pub forgets_ended : (w : Watcher) (end : ℕ) (entry : Result WatchEntry DocError) (step : Step) → w.ended ≡ Some end → ForgetsAt w entry step
-forgets_ended w end (Ok (floor at)) step is = λ before later. absurd (none-some end (sym before ∙ is))
-forgets_ended w end (Ok (said entry)) step is = tt
-forgets_ended w end (Ok blank) step is = tt
-forgets_ended w end (Err why) step is = tt
+-- what is forgotten where the floor rises, or where it doesn't
+pub forgets_risen : (w : Watcher) (step : Step) → ForgetsFrom w.records step → ForgetsAt w step
+forgets_risen w (GoesOn new) forgets = λ less many. forgets many
+forgets_risen w (Stops reply) forgets = tt
 
--- a floor is higher than those before if its moment is later
-pub higher_at : (high : Option Floor) (at line : ℕ) → moment_of high < at → moment_of (higher high at line) ≡ at
-higher_at None at line later = refl
-higher_at (Some f) at line later = by_test (nat_lt f.at at) refl
-  where
-    by_test : (b : Bool) → nat_lt f.at at ≡ b → moment_of (higher (Some f) at line) ≡ at
-    by_test true e = rw e refl
-    by_test false e = (let le : at ≤ f.at = grind (arith, nat_tests) in absurd (omega (arith, later, le)))
+pub forgets_none : (w new : Watcher) → moment_of new.high ≡ moment_of w.high → ForgetsAt w (GoesOn new)
+forgets_none w new same = λ less. absurd (omega (arith, less, same))
+
+-- more was kept before
+pub forgets_more : (w mid : Watcher) (step : Step) → mid.high ≡ w.high → KeepsAll w.records mid.records → ForgetsAt mid step →
+    ForgetsAt w step
+forgets_more w mid (GoesOn new) high kept forgets = λ less many.
+    let same = ap moment_of high in
+    let more = kept.more in let most = kept.most in forgets (omega (arith, less, same)) (omega (arith, many, more, most))
+forgets_more w mid (Stops reply) high kept forgets = tt
 
 -- ---- an operation
 
@@ -305,8 +379,9 @@ pub pushed : (s : LinesSeen) (old new : Watcher) (o : ExchangeOp) (next : Operat
     AreHeldWith (lined_op next line) old.watch.held.items new.watch.held.items →
     option_map (option_map string_bytes) new.key
     ≡ key_with (option_map (option_map string_bytes) old.key) (option_map string_bytes o.key) →
-    new.lines ≡ line → new.high ≡ old.high → new.ended ≡ old.ended → (t : LinesSeen) × HasOperation s (keyed_seen o) t × Knows t new
-pushed s old new o next line k here got counts moment watch with key lines high ended =
+    new.lines ≡ line → new.tasks ≡ old.tasks → new.high ≡ old.high → new.ended ≡ old.ended →
+    (t : LinesSeen) × HasOperation s (keyed_seen o) t × Knows t new
+pushed s old new o next line k here got counts moment watch with key lines tasks high ended =
     let now : Naming = got.named.now in
     let said : Operation Lined = lined_op (op_by now.from next) line in
     let t : LinesSeen = record s {
@@ -341,6 +416,7 @@ pushed s old new o next line k here got counts moment watch with key lines high 
         };
         moment = moment ∙ k.moment;
         key = key ∙ ap (λ (all : Option (Option (List ℕ))). key_with all (option_map string_bytes o.key)) k.key;
+        tasks = ap (λ (ts : Vec Task Global). ts.items) tasks ∙ k.tasks;
         high = high ∙ k.high;
         counts = counts_more s old.counts new.counts (op_by now.from next) t line k.counts
             (counts_by now.from old.counts new.counts next counts) refl refl;
@@ -348,29 +424,92 @@ pushed s old new o next line k here got counts moment watch with key lines high 
       },
     )
 
-op_fault : (s : LinesSeen) (o : KeyedExchange) → s.ended ≡ None → has_key s.key o.key ≡ true → is_refusal o.op.what ≡ false →
-    below s.high (s.lines + 1) o.op.starts ≡ None →
-    fault_of s (Ok (said (operation o))) ≡ None
-op_fault s o before all taken above =
-    ap (λ (e : Option ℕ). fault_by e s (Ok (said (operation o)))) before
+op_fault : (s : LinesSeen) (who : Option ℕ) (o : KeyedExchange) → s.ended ≡ None → has_key s.key o.key ≡ true →
+    is_refusal o.op.what ≡ false → early_fault s.tasks s.high (s.lines + 1) who o.op.starts ≡ None →
+    fault_of s (Ok (said who (operation o))) ≡ None
+op_fault s who o before all taken above =
+    ap (λ (e : Option ℕ). fault_by e s (Ok (said who (operation o)))) before
     ∙ by_tests (has_key s.key o.key) (is_refusal o.op.what) all taken
   where
     by_tests : (same refused : Bool) → same ≡ true → refused ≡ false →
         (if same
-        then (if refused then Some (refusal_at (s.lines + 1) (Missing keys.Limit)) else below s.high (s.lines + 1) o.op.starts)
+        then (if refused
+        then Some (refusal_at (s.lines + 1) (Missing keys.Limit))
+        else early_fault s.tasks s.high (s.lines + 1) who o.op.starts)
         else Some (refusal_at (s.lines + 1) (Law keys.Key))) ≡ None
     by_tests true false a b = above
     by_tests true true a b = cc
     by_tests false refused a b = cc
 
-pub takes_operation : (s : LinesSeen) (o : KeyedExchange) (step : Step) → s.ended ≡ None → has_key s.key o.key ≡ true →
-    is_refusal o.op.what ≡ false → below s.high (s.lines + 1) o.op.starts ≡ None → TakesOperation s o step →
-    TakesEntry s (Ok (said (operation o))) step
-takes_operation s o (GoesOn w) before all taken above h =
-    let same = ap (λ (t : LinesSeen). moment_of t.high) h.1.made in
-    (h.0, (op_fault s o before all taken above, h.1, λ less. absurd (omega (arith, same, less))), h.2)
-takes_operation s o (Stops reply) before all taken above h =
-    let P : Result Told WatchFault → Type 0 = λ r. TakesEntry s (Ok (said (operation o))) (Stops r) in
+-- an operation without a fault is above the floor of all
+pub is_above : (tasks : List Task) (high : Option Floor) (line : ℕ) (who : Option ℕ) (begins : ℕ) →
+    early_fault tasks high line who begins ≡ None → moment_of high ≤ begins
+is_above tasks high line who begins none =
+    above_high high (no_second (below (floor_of tasks who) line begins) (below high line begins)
+    (no_second (task_fault tasks line who)
+    (option_or (below (floor_of tasks who) line begins) (below high line begins)) none))
+  where
+    no_second : (a b : Option WatchFault) → option_or a b ≡ None → b ≡ None
+    no_second None b e = e
+    no_second (Some f) b e = absurd (none-some f (sym e))
+
+    above_high : (high : Option Floor) → below high line begins ≡ None → moment_of high ≤ begins
+    above_high None e = omega arith
+    above_high (Some f) e = by_test (nat_lt begins f.at) refl e
+      where
+        by_test : (b : Bool) → nat_lt begins f.at ≡ b → (if b then Some (Below line f.line) else None) ≡ None → f.at ≤ begins
+        by_test true test e = absurd (none-some (Below line f.line) (sym e))
+        by_test false test e = grind (arith, nat_tests)
+
+-- a floor changes floors alone
+same_log : (u : LinesSeen) (who at : Option ℕ) → (raised_by u who at).log ≡ u.log
+same_log u who None = refl
+same_log u who (Some at) = refl
+
+same_lines : (u : LinesSeen) (who at : Option ℕ) → (raised_by u who at).lines ≡ u.lines
+same_lines u who None = refl
+same_lines u who (Some at) = refl
+
+-- what is seen with an operation, once its end is a floor
+abbrev ended_as : LinesSeen → Option ℕ → KeyedExchange → LinesSeen
+ended_as u who o = raised_by u who (own_floor u.tasks who o.op.ends)
+
+-- an operation without a fault, and what is told where the floor rises by its end
+takes_it : (s : LinesSeen) (who : Option ℕ) (o : KeyedExchange) (u : LinesSeen) (step : Step) →
+    fault_of s (Ok (said who (operation o))) ≡ None → HasOperation s o u → RisesAs u (ended_as u who o) step →
+    TakesEntry s (Ok (said who (operation o))) step
+takes_it s who o u (GoesOn w) none has h =
+    let t : LinesSeen = ended_as u who o in
+    let log : t.log ≡ u.log = same_log u who (own_floor u.tasks who o.op.ends) in
+    let high : moment_of u.high ≡ moment_of s.high = ap (λ (v : LinesSeen). moment_of v.high) has.made in
+    let P : ℕ → Type 0 = λ m. IsLawfulTo u.log m (moment_of t.high) in
+    let Q : List (Operation Lined) → Type 0 = λ l. IsLawfulTo l (moment_of s.high) (moment_of t.high) in
+    (t, (none, (u, has, refl), subst Q (sym log) (subst P high h.1)), h.0)
+takes_it s who o u (Stops reply) none has h =
+    let t : LinesSeen = ended_as u who o in
+    let log : t.log ≡ u.log = same_log u who (own_floor u.tasks who o.op.ends) in
+    let lines : t.lines ≡ u.lines = same_lines u who (own_floor u.tasks who o.op.ends) in
+    let high : moment_of u.high ≡ moment_of s.high = ap (λ (v : LinesSeen). moment_of v.high) has.made in
+    told_at reply
+    (let P : ℕ → Type 0 = λ m. TellsIf (RisesTo u.log m (moment_of t.high) u.lines) reply in
+    let Q : List (Operation Lined) → Type 0 = λ l. TellsIf (RisesTo l (moment_of s.high) (moment_of t.high) u.lines) reply in
+    let R : ℕ → Type 0 = λ n. TellsIf (RisesTo t.log (moment_of s.high) (moment_of t.high) n) reply in
+    subst R (sym lines) (subst Q (sym log) (subst P high h)))
+  where
+    told_at : (reply : Result Told WatchFault) →
+        TellsIf (RisesTo (ended_as u who o).log (moment_of s.high) (moment_of (ended_as u who o).high) (ended_as u who o).lines) reply →
+        TakesEntry s (Ok (said who (operation o))) (Stops reply)
+    told_at (Ok told) r = inr (none, ended_as u who o, (u, has, refl), r)
+    told_at (Err fault) r = λ other. inr (none, ended_as u who o, (u, has, refl), r other)
+
+pub takes_operation : (s : LinesSeen) (who : Option ℕ) (o : KeyedExchange) (step : Step) → s.ended ≡ None →
+    has_key s.key o.key ≡ true → is_refusal o.op.what ≡ false →
+    early_fault s.tasks s.high (s.lines + 1) who o.op.starts ≡ None → TakesOperation s who o step →
+    TakesEntry s (Ok (said who (operation o))) step
+takes_operation s who o step before all taken above (inr (u, has, h)) =
+    takes_it s who o u step (op_fault s who o before all taken above) has h
+takes_operation s who o step before all taken above (inl h) =
+    let P : Step → Type 0 = λ z. TakesEntry s (Ok (said who (operation o))) z in
     subst P (sym h) (λ other. absurd (other refl))
 
 -- ---- the end of the input

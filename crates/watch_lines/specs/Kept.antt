@@ -31,6 +31,11 @@ pub record IsKeptAlone (opening : List ℕ) (kept : Records) : Type 0 where
   pub known : number_in kept opening ≡ Some 0
   pub next : kept.next ≡ 1
 
+-- no fewer are kept than before, and as many may be before any is forgotten
+pub record KeepsAll (old new : Records) : Type 0 where
+  pub more : btree_map_len old.numbers ≤ btree_map_len new.numbers
+  pub most : new.most ≡ old.most
+
 -- it got the next number
 pub record IsNext (old : Records) (text : List ℕ) (n : ℕ) (new : Records) : Type 0 where
   pub unknown : number_in old text ≡ None
@@ -38,6 +43,7 @@ pub record IsNext (old : Records) (text : List ℕ) (n : ℕ) (new : Records) : 
   pub next : new.next ≡ old.next + 1
   pub numbers : (other : List ℕ) →
       number_in new other ≡ cond (bytes_eq text other) (Some n) (number_in old other)
+  pub keeps : KeepsAll old new
 
 -- the record with this text has this number: it was kept, or got the next
 abbrev pub GotNumber : Records → List ℕ → ℕ → Records → Type 0

@@ -4,6 +4,8 @@ pub mod Namings
 pub mod Replies
 pub mod Seen
 pub mod Steps
+pub mod Tasks
 pub mod WatchEntries
+pub mod WatchHeads
 pub mod Watchers
 pub mod inner

@@ -5,11 +5,11 @@ use Rattle.object_core.specs.declared.operation.Operation.{Operation}
 use Rattle.object_registers.specs.declared.exchanging.Exchange.{Exchange}
 use Rattle.object_registers.specs.declared.exchanging.Exchange.TheVariants.{Sets, Gets, Swaps, Misses, Finds, Tries}
 use Rattle.object_registers.specs.declared.exchanging.Exchange.TheVariants.{Refuses}
-use Rattle.read_line.specs.Numberings.{AreDistinct}
+use Rattle.kept_lines.specs.Numberings.{AreDistinct}
 use Rattle.read_exchange.specs.Exchanges.{SaidExchange}
 use Rattle.exchanges_log.specs.ExchangeLogs.{IsNumberedExchange, MeansExchange, texts_of}
 use Rattle.exchanges_log.specs.ExchangeNumbers.{GrowBy}
-use Rattle.watch_lines.specs.Kept.{IsKeptNumber, Names, number_in}
+use Rattle.watch_lines.specs.Kept.{IsKeptNumber, KeepsAll, Names, number_in}
 use Rattle.watch_lines.specs.declared.lined.Lined.{Lined}
 use Rattle.watch_lines.specs.declared.records.Records.{Records}
 
@@ -60,6 +60,7 @@ pub record AreNamed (all : List (List ℕ)) (naming : Naming) (old : Records) (t
   pub kept : AreKeptNumbers after now new
   pub stay : (text : List ℕ) (n : ℕ) → number_in old text ≡ Some n → number_in new text ≡ Some n
   pub same : (n : ℕ) → IsKeptNumber old n → now.from n ≡ naming.from n
+  pub keeps : KeepsAll old new
 
 -- these texts have these numbers
 abbrev pub HaveNumbers : Records → List (List ℕ) → List ℕ → Type 0

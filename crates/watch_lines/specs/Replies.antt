@@ -1,7 +1,7 @@
 -- What is told of a log that is watched, a line after the other (this project's own).
 use Rattle.std.specs.Prelude.{◌≡◌, ◌≢◌, ◌⊎◌, ℕ, List, [], ◌∷◌, Option, None, Some, Result, Ok, Err}
 use Rattle.program_runs.specs.declared.fault.Fault.TheVariants.{NoMemory}
-use Rattle.read_document.specs.Splits.{lines_of}
+use Rattle.text_lines.specs.Splits.{lines_of}
 use Rattle.watch_lines.specs.Seen.{LinesSeen}
 use Rattle.watch_lines.specs.Steps.{ComesTo, goes_on, IsLastAnswer, stops}
 use Rattle.watch_lines.specs.declared.told.Told.{Told}

@@ -1,54 +1,55 @@
 -- What the lines so far of a log that is watched say (this project's own).
-use Rattle.std.specs.Prelude.{◌≡◌, ℕ, ◌+◌, ◌∷◌, [], ◌++◌, List, length, map, nat_lt, Bool, true}
+use Rattle.std.specs.Prelude.{◌≡◌, ℕ, ◌+◌, ◌∷◌, [], ◌++◌, List, length, map, Bool, true}
 use Rattle.std.specs.Prelude.{if◌then◌else◌}
 use Rattle.std.specs.Prelude.{Option, None, Some, ◌==◌, Result, Ok, Err}
-use Rattle.std.specs.Option.{option_map_or}
+use Rattle.std.specs.Option.{option_or}
 use Rattle.object_core.specs.declared.operation.Operation.{Operation}
 use Rattle.object_registers.specs.declared.exchanging.Exchange.{Exchange}
 use Rattle.read_document.specs.declared.refusal.DocError.{DocError}
 use Rattle.read_document.specs.declared.refusal.DocError.TheVariants.{Law, Missing, Shape}
 use Rattle.read_document.specs.declared.key.Key.TheVariants as key
-use Rattle.read_line.specs.Numberings.{AreDistinct}
+use Rattle.kept_lines.specs.Numberings.{AreDistinct}
 use Rattle.lines_log.specs.Faults.{refused_at}
 use Rattle.lines_log.specs.Logs.{same_key}
 use Rattle.read_exchange.specs.Exchanges.{done, ExchangeEntry, is_refusal, KeyedExchange, operation}
 use Rattle.exchanges_log.specs.ExchangeLogs.{IsNumberedExchange, texts_of, uncertain_in, unfinished_in}
 use Rattle.exchanges_log.specs.ExchangeNumbers.{GrowBy}
 use Rattle.watch_lines.specs.Lined.{without_line}
+use Rattle.watch_lines.specs.Tasks.{below, floor_of, high_with, is_named, own_floor, tasks_with}
 use Rattle.watch_lines.specs.WatchEntries.{blank, floor, said, WatchEntry}
+use Rattle.watch_lines.specs.WatchHeads.{WatchHead}
 use Rattle.watch_lines.specs.declared.lined.Lined.{Lined}
+use Rattle.watch_lines.specs.declared.tasks.Task.{Task}
 use Rattle.watch_lines.specs.declared.told.Counts.{Counts}
 use Rattle.watch_lines.specs.declared.told.Floor.{Floor}
 use Rattle.watch_lines.specs.declared.told.WatchFault.{WatchFault}
-use Rattle.watch_lines.specs.declared.told.WatchFault.TheVariants.{Below, Refused}
+use Rattle.watch_lines.specs.declared.told.WatchFault.TheVariants.{Refused}
 
 -- how many lines there are with the header; the records, each with its place for its number; the operations; the key of
--- each of them, once there is one; the highest floor, with the first line that has it, and how many floors there are;
--- and the line of the end, if it was read
+-- each of them, once there is one; the tasks that the header names, with their floors; the highest floor of all, with
+-- the first line that has it, and how many floors there are; and the line of the end, if it was read
 pub record LinesSeen : Type 0 where
   pub lines : ℕ
   pub records : List (List ℕ)
   pub log : List (Operation Lined)
   pub key : Option (Option (List ℕ))
+  pub tasks : List Task
   pub high : Option Floor
   pub floors : ℕ
   pub ended : Option ℕ
 
 -- behind a header
-abbrev pub opened_with : List ℕ → LinesSeen
-opened_with opening = record {
+abbrev pub opened_with : WatchHead → LinesSeen
+opened_with head = record {
   lines = 1;
-  records = opening ∷ [];
+  records = head.opening ∷ [];
   log = [];
   key = None;
+  tasks = head.tasks;
   high = None;
   floors = 0;
   ended = None;
 }
-
--- no operation on a later line begins before this moment
-abbrev pub moment_of : Option Floor → ℕ
-moment_of high = option_map_or (λ (f : Floor). f.at) high 0
 
 -- the operations without their lines, and their counts
 abbrev pub bare : List (Operation Lined) → List (Operation Exchange)
@@ -69,34 +70,40 @@ abbrev pub has_key : Option (Option (List ℕ)) → Option (List ℕ) → Bool
 has_key None which = true
 has_key (Some all) which = same_key all which
 
--- an operation begins below the highest floor
-abbrev pub below : Option Floor → ℕ → ℕ → Option WatchFault
-below None line begins = None
-below (Some high) line begins =
-    if nat_lt begins high.at then Some (Below line high.line) else None
-
 abbrev pub refusal_at : ℕ → DocError → WatchFault
 refusal_at line why = Refused (refused_at line why)
 
+-- the header names tasks, and not this one
+abbrev pub task_fault : List Task → ℕ → Option ℕ → Option WatchFault
+task_fault tasks line who = if is_named tasks who then None else Some (refusal_at line (Law key.Who))
+
+-- an operation begins below the floor of its task, or below that of all
+abbrev pub early_fault : List Task → Option Floor → ℕ → Option ℕ → ℕ → Option WatchFault
+early_fault tasks high line who begins =
+    option_or (task_fault tasks line who)
+    (option_or (below (floor_of tasks who) line begins) (below high line begins))
+
 -- of an operation, which is no refused write, and of the end
-abbrev pub entry_fault : LinesSeen → ℕ → ExchangeEntry → Option WatchFault
-entry_fault s line (operation o) =
+abbrev pub entry_fault : LinesSeen → ℕ → Option ℕ → ExchangeEntry → Option WatchFault
+entry_fault s line who (operation o) =
     if has_key s.key o.key
-    then (if is_refusal o.op.what then Some (refusal_at line (Missing key.Limit)) else below s.high line o.op.starts)
+    then (if is_refusal o.op.what
+    then Some (refusal_at line (Missing key.Limit))
+    else early_fault s.tasks s.high line who o.op.starts)
     else Some (refusal_at line (Law key.Key))
-entry_fault s line (done ops) = if ops == length s.log then None else Some (refusal_at line (Law key.Ops))
+entry_fault s line who (done ops) = if ops == length s.log then None else Some (refusal_at line (Law key.Ops))
 
 abbrev pub line_fault : LinesSeen → ℕ → Result WatchEntry DocError → Option WatchFault
-line_fault s line (Ok (said entry)) = entry_fault s line entry
-line_fault s line (Ok (floor at)) = None
+line_fault s line (Ok (said who entry)) = entry_fault s line who entry
+line_fault s line (Ok (floor who at)) = task_fault s.tasks line who
 line_fault s line (Ok blank) = None
 line_fault s line (Err why) = Some (refusal_at line why)
 
 -- behind the end stands white space alone
 abbrev pub late_fault : ℕ → Result WatchEntry DocError → Option WatchFault
 late_fault end (Ok blank) = None
-late_fault end (Ok (floor at)) = Some (refusal_at end (Shape key.Kind))
-late_fault end (Ok (said entry)) = Some (refusal_at end (Shape key.Kind))
+late_fault end (Ok (floor who at)) = Some (refusal_at end (Shape key.Kind))
+late_fault end (Ok (said who entry)) = Some (refusal_at end (Shape key.Kind))
 late_fault end (Err why) = Some (refusal_at end (Shape key.Kind))
 
 abbrev pub fault_by : Option ℕ → LinesSeen → Result WatchEntry DocError → Option WatchFault
@@ -108,15 +115,20 @@ fault_of s entry = fault_by s.ended s entry
 
 -- ---- what is seen with one more line that has none
 
-abbrev pub higher : Option Floor → ℕ → ℕ → Option Floor
-higher None at line = Some (record { at = at; line = line })
-higher (Some high) at line = if nat_lt high.at at then Some (record { at = at; line = line }) else Some high
-
 abbrev pub with_line : LinesSeen → LinesSeen
 with_line s = record s { lines = s.lines + 1 }
 
-abbrev pub with_floor : LinesSeen → ℕ → LinesSeen
-with_floor s at = record s { lines = s.lines + 1; high = higher s.high at (s.lines + 1); floors = s.floors + 1 }
+-- a floor of a task, or of all, by the last line
+abbrev pub raised : LinesSeen → Option ℕ → ℕ → LinesSeen
+raised s who at =
+    record s { tasks = tasks_with s.tasks who at s.lines; high = high_with s.tasks s.high who at s.lines }
+
+abbrev pub with_floor : LinesSeen → Option ℕ → ℕ → LinesSeen
+with_floor s who at = raised (record s { lines = s.lines + 1; floors = s.floors + 1 }) who at
+
+abbrev pub raised_by : LinesSeen → Option ℕ → Option ℕ → LinesSeen
+raised_by s who None = s
+raised_by s who (Some at) = raised s who at
 
 abbrev pub with_end : LinesSeen → LinesSeen
 with_end s = record s { lines = s.lines + 1; ended = Some (s.lines + 1) }
@@ -140,12 +152,13 @@ pub record HasOperation (s : LinesSeen) (o : KeyedExchange) (t : LinesSeen) : Ty
     key = key_with s.key o.key;
   }
 
-abbrev pub HasEntry : LinesSeen → ExchangeEntry → LinesSeen → Type 0
-HasEntry s (operation o) t = HasOperation s o t
-HasEntry s (done ops) t = t ≡ with_end s
+abbrev pub HasEntry : LinesSeen → Option ℕ → ExchangeEntry → LinesSeen → Type 0
+HasEntry s who (operation o) t =
+    (u : LinesSeen) × HasOperation s o u × (t ≡ raised_by u who (own_floor u.tasks who o.op.ends))
+HasEntry s who (done ops) t = t ≡ with_end s
 
 abbrev pub HasLine : LinesSeen → Result WatchEntry DocError → LinesSeen → Type 0
-HasLine s (Ok (said entry)) t = HasEntry s entry t
-HasLine s (Ok (floor at)) t = t ≡ with_floor s at
+HasLine s (Ok (said who entry)) t = HasEntry s who entry t
+HasLine s (Ok (floor who at)) t = t ≡ with_floor s who at
 HasLine s (Ok blank) t = t ≡ with_line s
 HasLine s (Err why) t = ⊥

@@ -7,10 +7,11 @@ use Rattle.object_watch.specs.Watches.{AreTooManyAt, IsLawfulBetween, IsFirstLos
 use Rattle.program_runs.specs.declared.fault.Fault.TheVariants.{Undecided}
 use Rattle.read_document.specs.declared.refusal.DocError.{DocError}
 use Rattle.read_document.specs.declared.refusal.DocError.TheVariants.{NotJson}
-use Rattle.read_exchange.specs.Headers.{exchange_head_of}
 use Rattle.watch_lines.specs.Lined.{lined_after}
-use Rattle.watch_lines.specs.Seen.{counts_of, fault_of, HasLine, moment_of, opened_with, refusal_at, LinesSeen}
+use Rattle.watch_lines.specs.Seen.{counts_of, fault_of, HasLine, opened_with, refusal_at, LinesSeen}
+use Rattle.watch_lines.specs.Tasks.{moment_of}
 use Rattle.watch_lines.specs.WatchEntries.{watch_entry_of, WatchEntry}
+use Rattle.watch_lines.specs.WatchHeads.{watch_head_of, WatchHead}
 use Rattle.watch_lines.specs.declared.lined.Lined.{Lined}
 use Rattle.watch_lines.specs.declared.lined.LinedRegister.{LinedRegister}
 use Rattle.watch_lines.specs.declared.told.Told.{Told}
@@ -52,8 +53,8 @@ RisesTo log from to line (Err (Below late high)) = ⊥
 -- ---- a line
 
 -- the first line is the header
-abbrev pub IsHeader : Result (List ℕ) DocError → Outcome → Type 0
-IsHeader (Ok opening) outcome = outcome ≡ goes_on (opened_with opening)
+abbrev pub IsHeader : Result WatchHead DocError → Outcome → Type 0
+IsHeader (Ok head) outcome = outcome ≡ goes_on (opened_with head)
 IsHeader (Err why) outcome = outcome ≡ stops (Err (refusal_at 1 why))
 
 -- a line that says this has no fault, and the log stays lawful; or it has one, or the log is lost
@@ -66,7 +67,7 @@ IsStep s entry (stops reply) = ((f : WatchFault) × (fault_of s entry ≡ Some f
 
 -- what a line comes to, behind the lines before it, if there are any
 abbrev pub ComesTo : Option LinesSeen → List ℕ → Outcome → Type 0
-ComesTo None line outcome = IsHeader (exchange_head_of line) outcome
+ComesTo None line outcome = IsHeader (watch_head_of line) outcome
 ComesTo (Some s) line outcome = IsStep s (watch_entry_of line) outcome
 
 -- ---- the end of the input

@@ -1,5 +1,5 @@
 -- What a watcher knows of the lines that it has read (this project's own).
-use Rattle.std.specs.Prelude.{◌≡◌, ◌⊎◌, ℕ, ◌<◌, ◌≤◌, List, option_map, Option, None, Some, Result, Ok, Err}
+use Rattle.std.specs.Prelude.{◌≡◌, ◌⊎◌, ℕ, ◌<◌, ◌≤◌, List, option_map, Option, None, Some, Result, Err}
 use Rattle.std.specs.Prelude.{string_bytes}
 use Rattle.std.specs.BTreeMap.{btree_map_len}
 use Rattle.object_core.specs.declared.operation.Operation.{Operation}
@@ -14,9 +14,10 @@ use Rattle.watch_lines.specs.Kept.{IsHeldRecord, IsKeptNumber}
 use Rattle.watch_lines.specs.Lined.{lined_after}
 use Rattle.watch_lines.specs.Namings.{AreKeptNumbers, log_by, Naming}
 use Rattle.watch_lines.specs.Replies.{TellsIf}
-use Rattle.watch_lines.specs.Seen.{counts_of, HasOperation, moment_of, LinesSeen}
+use Rattle.watch_lines.specs.Seen.{counts_of, HasOperation, LinesSeen, raised_by}
 use Rattle.watch_lines.specs.Steps.{ComesTo, goes_on, IsLawfulTo, IsStep, opened, RisesTo, stops}
-use Rattle.watch_lines.specs.WatchEntries.{blank, floor, said, WatchEntry}
+use Rattle.watch_lines.specs.Tasks.{moment_of, own_floor}
+use Rattle.watch_lines.specs.WatchEntries.{WatchEntry}
 use Rattle.watch_lines.specs.declared.lined.Lined.{Lined}
 use Rattle.watch_lines.specs.declared.lined.LinedRegister.{LinedRegister}
 use Rattle.watch_lines.specs.declared.told.Floor.{Floor}
@@ -39,6 +40,7 @@ pub record Knows (s : LinesSeen) (w : Watcher) : Type 0 where
   pub follows : FollowsLog s.records s.log w.records w.watch
   pub moment : w.watch.moment ≡ moment_of s.high
   pub key : option_map (option_map string_bytes) w.key ≡ s.key
+  pub tasks : w.tasks.items ≡ s.tasks
   pub high : w.high ≡ s.high
   pub counts : w.counts ≡ counts_of s
   pub ended : w.ended ≡ s.ended
@@ -59,11 +61,6 @@ abbrev pub TakesLine : Option LinesSeen → List ℕ → Step → Type 0
 TakesLine s line (GoesOn w) = (t : LinesSeen) × ComesTo s line (goes_on t) × Knows t w
 TakesLine s line (Stops reply) = TellsIf (λ r. ComesTo s line (stops r)) reply
 
--- an operation is taken, unless memory ran out
-abbrev pub TakesOperation : LinesSeen → KeyedExchange → Step → Type 0
-TakesOperation s o (GoesOn w) = (t : LinesSeen) × HasOperation s o t × Knows t w
-TakesOperation s o (Stops reply) = reply ≡ Err (Refused NoMemory)
-
 -- nothing more begins before a moment
 abbrev pub IsRisenBefore : List (Operation Lined) → ℕ → ℕ → Risen LinedRegister Lined → Type 0
 IsRisenBefore log from to (Open watch) =
@@ -76,11 +73,19 @@ abbrev pub KnowsLess : LinesSeen → Step → Type 0
 KnowsLess s (GoesOn w) = Knows s w
 KnowsLess s (Stops reply) = reply ≡ Err (Refused NoMemory)
 
--- the floor rises
+-- the floor rises from what was seen to what is seen then
+abbrev pub RisesAs : LinesSeen → LinesSeen → Step → Type 0
+RisesAs s t (GoesOn w) = Knows t w × IsLawfulTo s.log (moment_of s.high) (moment_of t.high)
+RisesAs s t (Stops reply) = TellsIf (RisesTo s.log (moment_of s.high) (moment_of t.high) s.lines) reply
+
+-- to this one
 abbrev pub RisesNow : LinesSeen → Option Floor → Step → Type 0
-RisesNow s high (GoesOn w) =
-    Knows (record s { high = high }) w × IsLawfulTo s.log (moment_of s.high) (moment_of high)
-RisesNow s high (Stops reply) = TellsIf (RisesTo s.log (moment_of s.high) (moment_of high) s.lines) reply
+RisesNow s high step = RisesAs s (record s { high = high }) step
+
+-- an operation is taken, and its end may be a floor of its task, unless memory ran out
+abbrev pub TakesOperation : LinesSeen → Option ℕ → KeyedExchange → Step → Type 0
+TakesOperation s who o step = (step ≡ Stops (Err (Refused NoMemory)))
+    ⊎ ((u : LinesSeen) × HasOperation s o u × RisesAs u (raised_by u who (own_floor u.tasks who o.op.ends)) step)
 
 -- ---- what is forgotten
 
@@ -93,9 +98,8 @@ abbrev pub ForgetsFrom : Records → Step → Type 0
 ForgetsFrom old (GoesOn w) = old.most ≤ btree_map_len old.numbers → KeepsHeld w
 ForgetsFrom old (Stops reply) = Unit {0}
 
--- so it is at each higher floor
-abbrev pub ForgetsAt : Watcher → Result WatchEntry DocError → Step → Type 0
-ForgetsAt old (Ok (floor at)) step = old.ended ≡ None → moment_of old.high < at → ForgetsFrom old.records step
-ForgetsAt old (Ok (said entry)) step = Unit {0}
-ForgetsAt old (Ok blank) step = Unit {0}
-ForgetsAt old (Err why) step = Unit {0}
+-- so it is where a line makes the floor of all higher
+abbrev pub ForgetsAt : Watcher → Step → Type 0
+ForgetsAt old (GoesOn w) =
+    moment_of old.high < moment_of w.high → old.records.most ≤ btree_map_len old.records.numbers → KeepsHeld w
+ForgetsAt old (Stops reply) = Unit {0}

@@ -5,9 +5,11 @@ ghost use Rattle.std.specs.List.{list_all};
 ghost use Rattle.serde_json.specs.View.{view};
 ghost use Rattle.read_document.specs.Refusals.{Gives};
 ghost use Rattle.watch_lines.specs.WatchEntries.{floor_in, is_blank, RunsForwards, watch_entry_in, watch_entry_of};
-ghost use Rattle.watch_lines.specs.WatchEntries.{watched_seen};
+ghost use Rattle.watch_lines.specs.WatchEntries.{watched_seen, who_in};
 
-use read_document::{DocError, Key, is_kind, number_field, read_value, required};
+use read_document::{
+    DocError, Key, is_kind, number_field, optional_number, read_value, required, shaped,
+};
 use read_exchange::{ExchangeLine, exchange_in};
 use serde_json::Value;
 use std::alloc::Global;
@@ -15,13 +17,13 @@ use std::alloc::Global;
 /// The greatest number of bytes of a line.
 const MAX_LINE: usize = 1_048_576;
 
-/// A line behind the header of a log that is watched.
+/// A line behind the header of a log that is watched, with the task that it names.
 #[derive(Drop)]
 pub enum WatchLine {
     /// As in a log whose records repeat.
-    Exchange(ExchangeLine),
-    /// No operation on a later line begins before this moment.
-    Floor(u64),
+    Exchange(Option<u64>, ExchangeLine),
+    /// No operation of this task, or of any, on a later line begins before this moment.
+    Floor(Option<u64>, u64),
     /// White space alone.
     Blank,
 }
@@ -57,11 +59,19 @@ fn watched_in(alloc: Global, value: &Value) -> Result<WatchLine, DocError>
 {
     if is_kind(value, "floor") {
         let at = floor_in(value)?;
-        Ok(WatchLine::Floor(at))
+        let who = shaped(Key::Who, optional_number(value.get("who")))?;
+        Ok(WatchLine::Floor(who, at))
     } else {
         let line = exchange_in(alloc, value)?;
-        Ok(WatchLine::Exchange(line))
+        Ok(WatchLine::Exchange(who_in(value), line))
     }
+}
+
+/// The task of an operation.
+fn who_in(value: &Value) -> Option<u64>
+    ensures { result ≡ who_in (view value.now) }
+{
+    value.get("who")?.as_u64()
 }
 
 /// The moment of a floor.

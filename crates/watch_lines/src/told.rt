@@ -86,7 +86,7 @@ pub enum Told {
 }
 
 /// Why nothing is told.
-#[derive(Clone, Copy, Debug)]
+#[derive(Clone, Copy)]
 pub enum WatchFault {
     Refused(Fault),
     /// The operation on a line begins below the floor of an earlier one.

@@ -1,5 +1,5 @@
 //! A watcher of a log, which reads its lines behind the header.
-ghost use Rattle.std.specs.Prelude.{◌≡◌, ◌+◌, ◌<◌, ◌≤◌, ◌++◌, ◌∷◌, [], List, Result, Ok, Option, None, Some};
+ghost use Rattle.std.specs.Prelude.{◌≡◌, ℕ, ◌+◌, ◌<◌, ◌≤◌, ◌++◌, ◌∷◌, [], List, Result, Ok, Option, None, Some};
 ghost use Rattle.std.specs.Prelude.{IfOk, IfSome, OnOk, option_map, string_bytes};
 ghost use Rattle.object_core.specs.declared.operation.Operation.{Operation};
 ghost use Rattle.object_watch.specs.Remainders.{AreAhead, AreHeldWith};
@@ -9,19 +9,26 @@ ghost use Rattle.read_document.specs.declared.refusal.DocError.{DocError};
 ghost use Rattle.read_exchange.specs.Exchanges.{done, keyed_seen, operation};
 ghost use Rattle.watch_lines.specs.Lined.{lined_after, lined_op};
 ghost use Rattle.watch_lines.specs.Replies.{TellsIf};
-ghost use Rattle.watch_lines.specs.Seen.{below, has_key, HasOperation, higher, key_with, moment_of, opened_with};
-ghost use Rattle.watch_lines.specs.Seen.{refusal_at, LinesSeen, with_line};
+ghost use Rattle.watch_lines.specs.Seen.{early_fault, has_key, HasOperation, key_with, opened_with};
+ghost use Rattle.watch_lines.specs.Seen.{raised, raised_by, refusal_at, LinesSeen, with_line};
 ghost use Rattle.watch_lines.specs.Steps.{EndsAs, IsLastAnswer, opened};
+ghost use Rattle.watch_lines.specs.Kept.{KeepsAll};
+ghost use Rattle.watch_lines.specs.Tasks.{moment_of, own_floor};
 ghost use Rattle.watch_lines.specs.WatchEntries.{floor, IsForward, RunsForwards, said, watch_entry_of, watched_seen};
 ghost use Rattle.watch_lines.specs.WatchEntries.{WatchEntry};
+ghost use Rattle.watch_lines.specs.WatchHeads.{header_seen};
 ghost use Rattle.watch_lines.specs.declared.lined.Lined.{Lined};
 ghost use Rattle.watch_lines.specs.Watchers.{ForgetsAt, ForgetsFrom, IsRisenBefore, Knows, KnowsIf, KnowsLess};
-ghost use Rattle.watch_lines.specs.Watchers.{RisesNow, TakesEntry, TakesLine, TakesOperation};
+ghost use Rattle.watch_lines.specs.Watchers.{RisesAs, RisesNow, TakesEntry, TakesLine, TakesOperation};
 
+use crate::header::{WatchHeader, read_watch_header};
 use crate::line::{WatchLine, read_watched};
 use crate::lined::{Lined, LinedRegister};
 use crate::number::number_op;
 use crate::records::Records;
+use crate::tasks::{
+    Task, below, floor_for_all, floor_of, higher, is_named, moment_of, own_floor, raise,
+};
 use crate::told::{Counts, Floor, Told, WatchFault};
 use lines_log::{refused_at, same_key};
 use object_core::Operation;
@@ -29,7 +36,7 @@ use object_registers::{Exchange, Exchanging};
 use object_watch::{Ended, Risen, Watch, WatchError, finish, open_watch, rise, take};
 use program_runs::Fault;
 use read_document::{DocError, Key};
-use read_exchange::{ExchangeLine, ExchangeOp, is_refusal, read_exchange_header};
+use read_exchange::{ExchangeLine, ExchangeOp, is_refusal};
 use std::alloc::{AllocError, Global};
 
 /// The line of the header.
@@ -47,7 +54,9 @@ pub struct Watcher {
     watch: Watch<LinedRegister, Lined>,
     /// The key of each operation, once there is one.
     key: Option<Option<String>>,
-    /// The highest floor.
+    /// The tasks that the header names, with their floors.
+    tasks: Vec<Task>,
+    /// The highest floor of all.
     high: Option<Floor>,
     counts: Counts,
     /// The line of the end, if it was read.
@@ -62,10 +71,11 @@ pub enum Step {
 }
 
 impl Watcher {
-    /// Behind a header with this opening.
-    fn new(alloc: Global, opening: String) -> Result<Watcher, AllocError>
-        ensures { IfOk result (Knows (opened_with (string_bytes opening))) }
+    /// Behind this header.
+    fn new(alloc: Global, header: WatchHeader) -> Result<Watcher, AllocError>
+        ensures { IfOk result (Knows (opened_with (header_seen header))) }
     {
+        let WatchHeader { opening, tasks } = header;
         let register = Exchanging { held: 0 };
         let watch = open_watch(alloc, LinedRegister { register })?;
         let records = Records::new(alloc, opening)?;
@@ -74,6 +84,7 @@ impl Watcher {
             records,
             watch,
             key: None,
+            tasks,
             high: None,
             counts: Counts::none(),
             ended: None,
@@ -84,7 +95,7 @@ impl Watcher {
     fn step(self, alloc: Global, budget: usize, bytes: &[u8]) -> Step
         requires { (s : LinesSeen) × Knows s self }
         ensures takes { (s : LinesSeen) → Knows s self → TakesEntry s (watch_entry_of bytes.now) result }
-        ensures forgets { ForgetsAt self (watch_entry_of bytes.now) result }
+        ensures forgets { ForgetsAt self result }
     {
         let Some(line) = self.lines.checked_add(1) else {
             return Step::Stops(Err(NO_MEMORY));
@@ -101,13 +112,14 @@ impl Watcher {
 
     /// What a line behind the end comes to.
     fn behind_end(self, line: usize, end: usize, read: Result<WatchLine, DocError>) -> Step
-        ensures { (s : LinesSeen) (entry : Result WatchEntry DocError) → Knows s self → s.ended ≡ Some end →
+        ensures takes { (s : LinesSeen) (entry : Result WatchEntry DocError) → Knows s self → s.ended ≡ Some end →
             line ≡ s.lines + 1 → Gives watched_seen read entry → TakesEntry s entry result }
+        ensures forgets { ForgetsAt self result }
     {
         match read {
             Ok(WatchLine::Blank) => Step::GoesOn(self.at_line(line)),
             Err(DocError::NoMemory) => Step::Stops(Err(NO_MEMORY)),
-            Ok(WatchLine::Exchange(_)) | Ok(WatchLine::Floor(_)) | Err(_) => {
+            Ok(WatchLine::Exchange(_, _)) | Ok(WatchLine::Floor(_, _)) | Err(_) => {
                 Step::Stops(Err(refusal_at(end, DocError::Shape(Key::Kind))))
             }
         }
@@ -115,7 +127,8 @@ impl Watcher {
 
     /// One line more, of which nothing is known.
     fn at_line(self, line: usize) -> Watcher
-        ensures { (s : LinesSeen) → Knows s self → line ≡ s.lines + 1 → Knows (with_line s) result }
+        ensures knows { (s : LinesSeen) → Knows s self → line ≡ s.lines + 1 → Knows (with_line s) result }
+        ensures high { result.high ≡ self.high }
     {
         let mut watcher = self;
         watcher.lines = line;
@@ -126,22 +139,26 @@ impl Watcher {
     fn enter(self, alloc: Global, budget: usize, line: usize, read: WatchLine) -> Step
         requires known { (s : LinesSeen) × Knows s self }
         requires forwards { RunsForwards read }
+        requires next { line ≡ self.lines + 1 }
         ensures takes { (s : LinesSeen) → Knows s self → s.ended ≡ None → line ≡ s.lines + 1 →
             TakesEntry s (Ok (watched_seen read)) result }
-        ensures forgets { ForgetsAt self (Ok (watched_seen read)) result }
+        ensures forgets { ForgetsAt self result }
     {
         match read {
             WatchLine::Blank => Step::GoesOn(self.at_line(line)),
-            WatchLine::Floor(at) => self.rise_to(alloc, budget, line, at),
-            WatchLine::Exchange(ExchangeLine::Operation(op)) => self.take(alloc, line, op),
-            WatchLine::Exchange(ExchangeLine::Done(ops)) => self.end_at(line, ops),
+            WatchLine::Floor(who, at) => self.rise_to(alloc, budget, line, who, at),
+            WatchLine::Exchange(who, ExchangeLine::Operation(op)) => {
+                self.take(alloc, budget, line, who, op)
+            }
+            WatchLine::Exchange(_, ExchangeLine::Done(ops)) => self.end_at(line, ops),
         }
     }
 
     /// The end, which says how many operations there are.
     fn end_at(self, line: usize, ops: usize) -> Step
-        ensures { (s : LinesSeen) → Knows s self → s.ended ≡ None → line ≡ s.lines + 1 →
-            TakesEntry s (Ok (said (done ops))) result }
+        ensures takes { (s : LinesSeen) (who : Option ℕ) → Knows s self → s.ended ≡ None → line ≡ s.lines + 1 →
+            TakesEntry s (Ok (said who (done ops))) result }
+        ensures forgets { ForgetsAt self result }
     {
         if ops != self.counts.ops {
             return Step::Stops(Err(refusal_at(line, DocError::Law(Key::Ops))));
@@ -153,11 +170,20 @@ impl Watcher {
     }
 
     /// An operation. No write is refused: the log has no limit.
-    fn take(self, alloc: Global, line: usize, op: ExchangeOp) -> Step
+    fn take(
+        self,
+        alloc: Global,
+        budget: usize,
+        line: usize,
+        who: Option<u64>,
+        op: ExchangeOp,
+    ) -> Step
         requires known { (s : LinesSeen) × Knows s self }
         requires forward { IsForward op }
-        ensures { (s : LinesSeen) → Knows s self → s.ended ≡ None → line ≡ s.lines + 1 →
-            TakesEntry s (Ok (said (operation (keyed_seen op)))) result }
+        requires next { line ≡ self.lines + 1 }
+        ensures takes { (s : LinesSeen) → Knows s self → s.ended ≡ None → line ≡ s.lines + 1 →
+            TakesEntry s (Ok (said who (operation (keyed_seen op)))) result }
+        ensures forgets { ForgetsAt self result }
     {
         if !has_key(&self.key, &op.key) {
             return Step::Stops(Err(refusal_at(line, DocError::Law(Key::Key))));
@@ -165,24 +191,47 @@ impl Watcher {
         if is_refusal(&op.what) {
             return Step::Stops(Err(refusal_at(line, DocError::Missing(Key::Limit))));
         }
-        match below(self.high, line, op.begin) {
+        match early_fault(self.tasks.as_slice(), self.high, line, who, op.begin) {
             Some(fault) => Step::Stops(Err(fault)),
-            None => self.put(alloc, line, op),
+            None => self.put(alloc, budget, line, who, op),
         }
     }
 
-    /// An operation of this key that isn't below the floor.
-    fn put(self, alloc: Global, line: usize, op: ExchangeOp) -> Step
+    /// An operation of this key and task that isn't below the floors.
+    fn put(
+        self,
+        alloc: Global,
+        budget: usize,
+        line: usize,
+        who: Option<u64>,
+        op: ExchangeOp,
+    ) -> Step
         requires known { (s : LinesSeen) × Knows s self }
         requires forward { IsForward op }
         requires above { self.watch.moment ≤ op.begin }
-        ensures { (s : LinesSeen) → Knows s self → line ≡ s.lines + 1 →
-            TakesOperation s (keyed_seen op) result }
+        requires next { line ≡ self.lines + 1 }
+        ensures takes { (s : LinesSeen) → Knows s self → line ≡ s.lines + 1 →
+            TakesOperation s who (keyed_seen op) result }
+        ensures forgets { ForgetsAt self result }
     {
         let mut watcher = self;
+        let end = op.end;
         match watcher.push(alloc, line, op) {
-            Ok(()) => Step::GoesOn(watcher),
+            Ok(()) => watcher.raise_by(alloc, budget, who, end),
             Err(_) => Step::Stops(Err(NO_MEMORY)),
+        }
+    }
+
+    /// If the header names tasks, the end of an operation is a floor of its task.
+    fn raise_by(self, alloc: Global, budget: usize, who: Option<u64>, end: Option<u64>) -> Step
+        requires { (s : LinesSeen) × Knows s self }
+        ensures rises { (s : LinesSeen) → Knows s self →
+            RisesAs s (raised_by s who (own_floor s.tasks who end)) result }
+        ensures forgets { ForgetsAt self result }
+    {
+        match own_floor(self.tasks.as_slice(), who, end) {
+            Some(at) => self.raise(alloc, budget, who, at),
+            None => Step::GoesOn(self),
         }
     }
 
@@ -190,8 +239,10 @@ impl Watcher {
         requires known { (s : LinesSeen) × Knows s self.old }
         requires forward { IsForward op }
         requires above { self.old.watch.moment ≤ op.begin }
-        ensures { OnOk result ((s : LinesSeen) → Knows s self.old → line ≡ s.lines + 1 →
+        ensures pushed { OnOk result ((s : LinesSeen) → Knows s self.old → line ≡ s.lines + 1 →
             (t : LinesSeen) × HasOperation s (keyed_seen op) t × Knows t self.new) }
+        ensures kept { OnOk result (KeepsAll self.old.records self.new.records) }
+        ensures high { OnOk result (self.new.high ≡ self.old.high) }
     {
         keep_key(alloc, &mut self.key, &op.key)?;
         let next = number_op(&mut self.records, op)?;
@@ -201,25 +252,52 @@ impl Watcher {
         Ok(())
     }
 
-    /// A floor.
-    fn rise_to(self, alloc: Global, budget: usize, line: usize, at: u64) -> Step
+    /// A floor, of a task or of all.
+    fn rise_to(self, alloc: Global, budget: usize, line: usize, who: Option<u64>, at: u64) -> Step
         requires { (s : LinesSeen) × Knows s self }
         ensures takes { (s : LinesSeen) → Knows s self → s.ended ≡ None → line ≡ s.lines + 1 →
-            TakesEntry s (Ok (floor at)) result }
-        ensures forgets { moment_of self.high < at → ForgetsFrom self.records result }
+            TakesEntry s (Ok (floor who at)) result }
+        ensures forgets { ForgetsAt self result }
     {
+        if !is_named(self.tasks.as_slice(), who) {
+            return Step::Stops(Err(refusal_at(line, DocError::Law(Key::Who))));
+        }
         let Some(floors) = self.counts.floors.checked_add(1) else {
             return Step::Stops(Err(NO_MEMORY));
         };
         let mut watcher = self;
         watcher.lines = line;
         watcher.counts.floors = floors;
-        let high = higher(watcher.high, at, line);
-        if moment_of(high) == moment_of(watcher.high) {
+        watcher.raise(alloc, budget, who, at)
+    }
+
+    /// A floor, of a task or of all, by the last line.
+    fn raise(self, alloc: Global, budget: usize, who: Option<u64>, at: u64) -> Step
+        requires { (s : LinesSeen) × Knows s self }
+        ensures rises { (s : LinesSeen) → Knows s self → RisesAs s (raised s who at) result }
+        ensures forgets { ForgetsAt self result }
+    {
+        let mut watcher = self;
+        let line = watcher.lines;
+        raise(&mut watcher.tasks, who, at, line);
+        let all = floor_for_all(watcher.tasks.as_slice(), who, at);
+        let high = higher(watcher.high, all, line);
+        watcher.rise_if(alloc, budget, high)
+    }
+
+    /// The floor of all is this one, which isn't lower.
+    fn rise_if(self, alloc: Global, budget: usize, high: Option<Floor>) -> Step
+        requires known { (s : LinesSeen) × Knows s self }
+        requires no_lower { moment_of self.high ≤ moment_of high }
+        ensures rises { (s : LinesSeen) → Knows s self → RisesNow s high result }
+        ensures forgets { ForgetsAt self result }
+    {
+        if moment_of(high) == moment_of(self.high) {
+            let mut watcher = self;
             watcher.high = high;
             return Step::GoesOn(watcher);
         }
-        watcher.rise(alloc, budget, high)
+        self.rise(alloc, budget, high)
     }
 
     /// The floor rises to this one.
@@ -235,6 +313,7 @@ impl Watcher {
             records,
             watch,
             key,
+            tasks,
             high: _,
             counts,
             ended,
@@ -245,6 +324,7 @@ impl Watcher {
                 records,
                 watch,
                 key,
+                tasks,
                 high,
                 counts,
                 ended,
@@ -306,7 +386,7 @@ impl Watcher {
 pub fn watch_line(alloc: Global, budget: usize, read: Option<Watcher>, bytes: &[u8]) -> Step
     requires { (seen : Option LinesSeen) × KnowsIf seen read }
     ensures takes { (seen : Option LinesSeen) → KnowsIf seen read → TakesLine seen bytes.now result }
-    ensures forgets { IfSome read (λ old. ForgetsAt old (watch_entry_of bytes.now) result) }
+    ensures forgets { IfSome read (λ old. ForgetsAt old result) }
 {
     match read {
         Some(watcher) => watcher.step(alloc, budget, bytes),
@@ -318,11 +398,11 @@ pub fn watch_line(alloc: Global, budget: usize, read: Option<Watcher>, bytes: &[
 fn open(alloc: Global, bytes: &[u8]) -> Step
     ensures { TakesLine None bytes.now result }
 {
-    let opening = match read_exchange_header(alloc, bytes) {
-        Ok(opening) => opening,
+    let header = match read_watch_header(alloc, bytes) {
+        Ok(header) => header,
         Err(why) => return Step::Stops(Err(refusal_at(HEADER, why))),
     };
-    match Watcher::new(alloc, opening) {
+    match Watcher::new(alloc, header) {
         Ok(watcher) => Step::GoesOn(watcher),
         Err(_) => Step::Stops(Err(NO_MEMORY)),
     }
@@ -428,34 +508,21 @@ fn copy_of(alloc: Global, key: &Option<String>) -> Result<Option<String>, AllocE
     }
 }
 
-/// The fault of an operation on this line that begins below the highest floor.
-fn below(high: Option<Floor>, line: usize, begins: u64) -> Option<WatchFault>
-    ensures { result ≡ below high line begins }
+/// The fault of an operation of this task that begins then, if it has one.
+fn early_fault(
+    tasks: &[Task],
+    high: Option<Floor>,
+    line: usize,
+    who: Option<u64>,
+    begins: u64,
+) -> Option<WatchFault>
+    ensures { result ≡ early_fault tasks.now high line who begins }
 {
-    match high {
-        Some(high) if begins < high.at => Some(WatchFault::Below {
-            line,
-            floor: high.line,
-        }),
-        _ => None,
+    if !is_named(tasks, who) {
+        return Some(refusal_at(line, DocError::Law(Key::Who)));
     }
-}
-
-fn higher(high: Option<Floor>, at: u64, line: usize) -> Option<Floor>
-    ensures { result ≡ higher high at line }
-{
-    match high {
-        Some(high) if at <= high.at => Some(high),
-        _ => Some(Floor { at, line }),
-    }
-}
-
-/// No operation on a later line begins before this moment.
-fn moment_of(high: Option<Floor>) -> u64
-    ensures { result ≡ moment_of high }
-{
-    match high {
-        Some(high) => high.at,
-        None => 0,
+    match below(floor_of(tasks, who), line, begins) {
+        Some(fault) => Some(fault),
+        None => below(high, line, begins),
     }
 }

@@ -4,18 +4,18 @@ use Rattle.std.proofs.Common.{append_assoc}
 use Rattle.std.specs.Prelude.{option_map}
 use Rattle.std.proofs.lemmas.List.{append-nil}
 use Rattle.history_core.specs.declared.history.Op.{Op}
-use Rattle.read_document.specs.Splits.{IsSplit, lines_of}
+use Rattle.text_lines.specs.Splits.{IsSplit, lines_of}
 use Rattle.read_line.specs.Lines.{Head, head_of, op_seen}
-use Rattle.read_line.specs.Numberings.{IsNumbering}
-use Rattle.read_line.specs.Reads.{KnowsReads, WereRead}
-use Rattle.read_line.specs.Tasks.{KnowsTasks, TakeTurns}
+use Rattle.record_numbers.specs.Numbered.{AreNumbered}
+use Rattle.kept_lines.specs.Reads.{KnowsReads, WereRead}
+use Rattle.kept_lines.specs.Tasks.{KnowsTasks, TakeTurns}
 use Rattle.read_line.specs.declared.line.LineOp.{LineOp}
 use Rattle.lines_log.specs.Faults.{is_end}
 use Rattle.lines_log.specs.Logs.{AreAll, AreLines, judged_line, LineRule, rule_in, text_of, unfinished_in}
 use Rattle.lines_log.specs.inner.Numbers.{IsNumberedNow}
 use Rattle.lines_log.specs.inner.Readings.{HasRest}
 use Rattle.lines_log.proofs.BodyLemmas.{end_is, ends_last, none_left}
-use Rattle.lines_log.proofs.ReadLemmas.{distinct, more_lines}
+use Rattle.lines_log.proofs.ReadLemmas.{more_lines}
 use Rattle.whole_log.specs.WholeLogs.{IsWholeLog}
 use Rattle.whole_log.specs.inner.WholeReadings.{AreWholeRead, IsWholeBody, IsWholeGiven, IsWholeSoFar, ReadsWholeLine, whole_rule}
 use Rattle.whole_log.specs.declared.reader.Reader.{Reader}
@@ -25,11 +25,11 @@ use Rattle.whole_log.specs.declared.whole_log.WholeLog.{WholeLog}
 pub entered : (opening : List ℕ) (lines : List (List ℕ)) (line : List ℕ) (last : Bool) (old new : Reader) (said : Op (List ℕ)) (next : Op ℕ)
     → (read : AreWholeRead opening lines old) → judged_line (whole_rule old) (length lines) last line ≡ Ok (Some said)
     → whole_rule new ≡ whole_rule old
-    → ((records : List (List ℕ)) → IsNumbering records old.numbering → IsNumberedNow records said new.numbering next)
+    → ((records : List (List ℕ)) → AreNumbered records old.numbers → IsNumberedNow records said new.numbers next)
     → KnowsTasks (old.ops.items ++ next ∷ []) new.turns → KnowsReads (old.ops.items ++ next ∷ []) new.reads
     → new.ops.items ≡ old.ops.items ++ next ∷ [] → AreWholeRead opening (lines ++ line ∷ []) new
 entered opening lines line last old new said next read judged limits numbered tasks reads pushed =
-    let now = numbered read.records read.numbering in
+    let now = numbered read.records read.numbered in
     let are : AreLines (whole_rule old) (lines ++ line ∷ []) now.after (old.ops.items ++ next ∷ []) =
     more_lines (whole_rule old) lines read.records now.after line last old.ops.items said next read.are now.grows judged now.is in
     let at_rule : AreLines (whole_rule new) (lines ++ line ∷ []) now.after (old.ops.items ++ next ∷ []) =
@@ -37,7 +37,7 @@ entered opening lines line last old new said next read judged limits numbered ta
     record {
       records = now.after;
       are = subst (λ (l : List (Op ℕ)). AreLines (whole_rule new) (lines ++ line ∷ []) now.after l) (sym pushed) at_rule;
-      numbering = now.numbers;
+      numbered = now.numbered;
       opened = now.grows 0 opening read.opened;
       tasks = subst (λ (l : List (Op ℕ)). KnowsTasks l new.turns) (sym pushed) tasks;
       reads = subst (λ (l : List (Op ℕ)). KnowsReads l new.reads) (sym pushed) reads;
@@ -121,11 +121,11 @@ assembled bytes text first body head ended reader log is_text split said rule wh
         all = subst (λ (b : LineRule). AreAll b ended (lines_of body) whole.lines) rule whole.all;
         are = subst (λ (b : LineRule). AreLines b whole.lines records log.ops.items) rule are;
         opening = whole.read.opened;
-        distinct = distinct records reader.numbering whole.read.numbering;
+        distinct = whole.read.numbered.distinct;
         turns = subst (λ (l : List (Op ℕ)). TakeTurns l) (sym ops) whole.read.tasks.turn;
       };
       unfinished = given.unfinished ∙ ap unfinished_in (sym ops);
-      count = given.count records whole.read.numbering;
+      count = given.count records whole.read.numbered;
       given = subst (λ (l : List (Op ℕ)). WereRead l log.read) (sym ops) (given.given whole.read.reads);
       ended = given.ended;
     }

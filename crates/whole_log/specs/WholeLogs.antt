@@ -2,7 +2,7 @@
 use Rattle.std.specs.Prelude.{◌≡◌, ℕ, List, length}
 use Rattle.lines_log.specs.Logs.{IsLog, unfinished_in}
 use Rattle.read_line.specs.Lines.{Head}
-use Rattle.read_line.specs.Reads.{WereRead}
+use Rattle.kept_lines.specs.Reads.{WereRead}
 use Rattle.whole_log.specs.declared.whole_log.WholeLog.{WholeLog}
 
 -- the operations of the log that bytes stand for, three counts, and whether its end is there

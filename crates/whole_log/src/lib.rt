@@ -4,7 +4,6 @@
 
 mod line;
 mod log;
-mod number;
 mod reader;
 mod unread;
 mod whole_log;

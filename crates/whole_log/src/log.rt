@@ -1,7 +1,7 @@
 //! From bytes to the log that they stand for.
 ghost use Rattle.std.specs.Prelude.{◌≡◌, ℕ, List, [], option_map, string_bytes, IfOk, OnOk};
 ghost use Rattle.lines_log.specs.Logs.{first_key, unfinished_in};
-ghost use Rattle.read_document.specs.Splits.{lines_of};
+ghost use Rattle.text_lines.specs.Splits.{lines_of};
 ghost use Rattle.whole_log.specs.WholeLogs.{IsWholeLog};
 ghost use Rattle.whole_log.specs.inner.WholeReadings.{AreWholeRead, IsWholeBody, IsWholeGiven, whole_rule};
 
@@ -10,9 +10,10 @@ use crate::unread::Unread;
 use crate::whole_log::WholeLog;
 use history_core::Op;
 use lines_log::{is_end, text_of};
-use read_document::{DocError, split_line};
+use read_document::DocError;
 use read_line::{LineOp, LogLine, read_header, read_line};
 use std::alloc::{AllocError, Global};
+use text_lines::split_line;
 
 /// The log that the bytes stand for.
 pub fn read_whole(alloc: Global, bytes: &[u8]) -> Result<WholeLog, Unread>
@@ -75,7 +76,7 @@ fn finish(ended: bool, reader: Reader) -> WholeLog
     ensures { IsWholeGiven ended reader result }
 {
     let Reader {
-        numbering,
+        numbers,
         reads,
         ops,
         ..
@@ -84,7 +85,7 @@ fn finish(ended: bool, reader: Reader) -> WholeLog
     WholeLog {
         ops,
         unfinished,
-        records: numbering.count(),
+        records: numbers.count(),
         read: reads.count(),
         ended,
     }

@@ -5,10 +5,12 @@ ghost use Rattle.lines_log.specs.Logs.{judged_line};
 ghost use Rattle.read_line.specs.Lines.{IsAllowed, op_seen};
 
 use crate::line::read_op;
-use crate::number::number_op;
 use crate::unread::Unread;
 use history_core::Op;
-use read_line::{LineOp, LogHeader, Numbering, Reads, Turns};
+use kept_lines::{Reads, Turns};
+use lines_log::number_op;
+use read_line::{LineOp, LogHeader};
+use record_numbers::RecordNumbers;
 use std::alloc::{AllocError, Global};
 
 /// What was read of a log.
@@ -18,7 +20,7 @@ pub(crate) struct Reader {
     pub limited: bool,
     /// The key of each operation, if it has one.
     pub key: Option<String>,
-    pub numbering: Numbering,
+    pub numbers: RecordNumbers,
     pub turns: Turns,
     pub reads: Reads,
     pub ops: Vec<Op<usize>>,
@@ -34,11 +36,11 @@ impl Reader {
             record { limited = is_some header.limit; key = option_map string_bytes key }) }
     {
         let limited = header.limit.is_some();
-        let numbering = Numbering::new(alloc, header.opening)?;
+        let numbers = RecordNumbers::new(alloc, header.opening.as_bytes())?;
         Ok(Reader {
             limited,
             key,
-            numbering,
+            numbers,
             turns: Turns::new(alloc),
             reads: Reads::new(alloc),
             ops: Vec::new(alloc),
@@ -72,7 +74,7 @@ impl Reader {
             AreWholeRead opening (lines ++ line ∷ []) self.new) }
         ensures rule { OnOk result (whole_rule self.new ≡ whole_rule self.old) }
     {
-        let next = number_op(&mut self.numbering, op)?;
+        let next = number_op(&mut self.numbers, op)?;
         self.turns.enter(&next, self.ops.len())?;
         self.reads.enter(&next)?;
         match self.ops.push(next) {

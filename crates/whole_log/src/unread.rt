@@ -1,8 +1,8 @@
 //! That no log was read.
 ghost use Rattle.std.specs.Prelude.{◌≡◌};
 
+use kept_lines::TurnError;
 use read_document::DocError;
-use read_line::TurnError;
 use std::alloc::AllocError;
 
 /// The bytes stand for no log, or memory ran out.

@@ -54,15 +54,16 @@ pub(crate) const fn of_register(size: usize, triple: bool) -> Memory {
 }
 
 pub(crate) const fn of_board(size: usize, triple: bool, n: usize) -> Memory {
-    // Words and slots of all registers are first put into a list each. A seat is what a place knows of the registers, a pass all that it has:
-    // there are two lists of seats and one of passes, two of places and one of what handles lead to. The board is a block, and each place has two,
-    // and all but one room for a seat.
+    // Words and slots of all registers are first put into a list each. That of the words grows once, as eight words for each place stand behind
+    // the registers'. A seat is what a place knows of the registers, a pass all that it has: there are two lists of seats and one of passes, two of
+    // places and one of what handles lead to. The board is a block, and each place has two, and all but one room for a seat.
     let (stride, slots, stored) = if triple { (8, 3, 272) } else { (16, 4, 528) };
     let record = size + 16;
     let seat = stored + record;
-    let pass = seat + record + 32;
-    let cells = 2 * lines(8 * (stride * n * n + 8)) + 2 * lines(slots * n * n * record);
+    let pass = seat + record + 40;
+    let words = 8 * (stride * n * n + 8);
+    let cells = lines(words) + lines(2 * words) + lines(words + 64 * n) + 2 * lines(slots * n * n * record);
     let lists = 2 * lines(n * seat) + lines(n * pass) + 2 * lines(16 * n) + lines(8 * n);
     let blocks = lines(record + 88) + n * (lines(pass) + lines(16)) + (n - 1) * lines(seat);
-    Memory { bytes: cells + lists + blocks, requests: 3 * n + 10 }
+    Memory { bytes: cells + lists + blocks, requests: 3 * n + 11 }
 }

@@ -39,20 +39,58 @@ def with_floors(random, rows):
 def spoil_floor(random, rows):
     floors = [row for row in rows if row.get("kind") == "floor"]
     if floors:
-        it, how = random.choice(floors), random.randrange(3)
+        it, how = random.choice(floors), random.randrange(4)
         if how == 0:
             del it["begin"]
         else:
-            it["begin"] = random.choice(make_exchanges.WRONG)
+            it["who" if how == 3 else "begin"] = random.choice(make_exchanges.WRONG)
+
+
+def by_tasks(random, rows):
+    """The rows by tasks whose operations don't overlap, in an order that keeps that of each task, below a header that names the tasks."""
+    ends, header, rows = {}, rows[0], [row for row in rows[1:] if row.get("kind") != "done"]
+    for row in sorted(rows, key=lambda it: it["begin"]):
+        free = [who for who, end in ends.items() if end is not None and end <= row["begin"]]
+        row["who"] = random.choice(free) if free and random.random() < 0.9 else len(ends)
+        ends[row["who"]] = row["end"]
+    begins = [row["begin"] for row in rows]
+    rows.sort(key=lambda it: random.choice(begins) + it["begin"] if it["end"] is None else it["end"] * 2)
+    names = list(range(len(ends) + (random.random() < 0.1)))
+    if random.random() < 0.1:
+        names.append(random.choice(names or [0]))
+    random.shuffle(names)
+    return [{**header, "who": names if random.random() < 0.97 else random.choice([*make_exchanges.WRONG, names[1:]])}, *rows]
+
+
+def with_floors_of_tasks(random, rows, tasks):
+    """The rows with floors of tasks among them, each mostly as high as what its task does behind it lets it be, and those of tasks that are
+    over without bound."""
+    made = []
+    for place, row in enumerate(rows):
+        while place and tasks and random.random() < 0.5:
+            who = random.choice(tasks)
+            ahead = [it["begin"] for it in rows[place:] if it["who"] == who]
+            most = min(ahead, default=random.choice((18446744073709551615, row["begin"] + 3)))
+            made.append({"kind": "floor", "begin": most + (random.random() < 0.02 and most < 99), "who": who})
+        made.append(row)
+    return made
 
 
 def make_log(random):
     rows = make_exchanges.good_log(random)
-    spoilt = random.random()
+    spoilt, named = random.random(), random.random() < 0.4
+    if named:
+        last = [rows[-1]] if rows[-1].get("kind") == "done" else []
+        rows = by_tasks(random, rows)
+        if random.random() < 0.7:
+            rows[1:] = with_floors_of_tasks(random, rows[1:], sorted({row["who"] for row in rows[1:]}))
+        rows += last
     if spoilt < 0.15:
         make_exchanges.spoil(random, rows)
     last = [rows.pop()] if rows[-1].get("kind") == "done" else []
-    rows = with_floors(random, rows) + last
+    if not named or random.random() < 0.3:
+        rows = with_floors(random, rows)
+    rows += last
     if spoilt > 0.96:
         spoil_floor(random, rows)
     if random.random() < 0.2:

@@ -10,6 +10,8 @@ import sys
 from bisect import bisect_left
 from collections import namedtuple
 
+from small_lines import HINTS
+
 KINDS = ("write", "read", "refused")
 GREATEST = 2**64 - 1
 NEVER = float("inf")
@@ -60,7 +62,7 @@ def value_of(number, line):
 
 def must(holds, number, why):
     if not holds:
-        raise Refused(f"line {number}: {why}")
+        raise Refused(f"line {number}: {why}{HINTS.get(why, '')}")
 
 
 def header_of(line):

@@ -70,10 +70,10 @@ def reasons(opening, limit, ops):
     pairs = [(a, b) for a, b in product(places, places) if before[a][b] and counts[b] and record[a] != record[b]]
     yield "crossed", {(a, b, c, d) for (a, b), (c, d) in product(pairs, pairs)
                       if record[a] == record[d] and record[b] == record[c] and opening not in (record[a], record[b])}
-    orders = list(atomic_orders(opening, ops))
+    early = [(order, early_refusals(limit, ops, order)) for order in atomic_orders(opening, ops)]
     yield "limit", {(p,) for p in places if finished[p] and ops[p]["kind"] == "refused"
-                    and all(any(order[entry] == p or entry < order.index(p) for entry in early_refusals(limit, ops, order))
-                            for order in orders)}
+                    and any(order[entry] == p for order, entries in early for entry in entries)
+                    and all(any(entry <= order.index(p) for entry in entries) for order, entries in early)}
 
 
 def search(opening, limit, ops):

@@ -8,8 +8,21 @@ import searches
 MOST_NUMBERS = 64
 
 
+# What is told behind some refusals of a line: what to do.
+HINTS = {
+    "missing who": "; only `fsr watch` takes a floor",
+    "missing end": "; an unfinished operation has null, and only `fsr watch` takes a floor",
+    "shape of kind": "; a `cas` needs `repeats` in the header, and `done` is the last line",
+    "law of key": "; such a log has one key, that of its first operation",
+    "law of repeats": "; `fsr order` without `--coherent` takes it",
+}
+
+
 class Fault(Exception):
     """A log has no answer; the text is the line on standard error behind `fsr: `."""
+
+    def __init__(self, told):
+        super().__init__(told + HINTS.get(told.partition(": ")[2], ""))
 
 
 def answer(data):
@@ -38,6 +51,9 @@ def of_key(ops, key):
 def key_line(key):
     text = "null" if key is None else json.dumps(key if isinstance(key, str) else list(key), separators=(",", ":"), ensure_ascii=False)
     return f"key: {text}\n"
+
+
+LATER = "No key that comes later was judged.\n"
 
 
 def take_write(opening, each, written, number):
@@ -82,7 +98,7 @@ def told(data, reason):
     lines = [int(word) for word in reason[1:]]
     texts, key = data.decode().split("\n"), ops[lines[0] - 2]["key"]
     shows = "".join(f"line {line}: {texts[line - 1]}\n" for line in named_by(lines, ops))
-    which = key_line(key) if len(keys_of(ops)) > 1 else ""
+    which = key_line(key) + LATER if len(keys_of(ops)) > 1 else ""
     return f"unlawful {' '.join(reason)}\n" + shows + sentence(reason[0], lines, opening, limit, ops) + which + counts(opening, ops, ended)
 
 
@@ -153,7 +169,9 @@ def sentence(rule, lines, opening, limit, ops):
     if rule == "stale":
         return f"Line {lines[1]} gave the opening behind an operation of another record: {apart(*lines)}.\n"
     if rule == "crossed":
-        return f"Each of two records has to stand before the other: {apart(*lines[:2])}; {apart(*lines[2:])}.\n"
+        one, other = f"Lines {first} and {lines[3]} are of one record", " and ".join(map(str, dict.fromkeys(lines[1:3])))
+        both = f"{one}, line{'' if lines[1] == lines[2] else 's'} {other} of another, and each record has to stand before the other"
+        return f"{both}: {apart(*lines[:2])}; {apart(*lines[2:])}.\n"
     own = of_key(ops, ops[first - 2]["key"])
     return (f"Of the writes at most {most_before(opening, own)} can stand before line {first} or a refused write in front of it, "
             f"and the limit is {limit or 1}.\n")

@@ -16,8 +16,10 @@ from small_lines import Fault, is_whole, value_of
 SPACE = b" \t\n\f\r"
 MOST_BYTES = 1048576
 
-# What was seen: the opening, the operations and the line of each, their one key, the highest floor and its line, and how many floors there are.
-Seen = collections.namedtuple("Seen", "opening ops lines keys at floor floors ended")
+# What was seen: the opening, the operations and the line of each, their one key, the highest floor of each task that is named and its line,
+# that of all, and how many floors there are. A line is none where there is no floor.
+Floor = collections.namedtuple("Floor", "at line")
+Seen = collections.namedtuple("Seen", "opening ops lines keys tasks all floors ended")
 
 
 def lines_of(data):
@@ -30,7 +32,9 @@ def header_in(line):
     must(isinstance(found, dict) and found.get("kind") == "lines", 1, "kind")
     opening, limit = exchanges.head_of(found)
     must(limit is None, 1, "law of limit")
-    return Seen(opening, [], [], [], 0, None, 0, None)
+    tasks = found.get("who") or []
+    must(isinstance(found.get("who"), (list, type(None))) and all(map(is_whole, tasks)), 1, "shape of who")
+    return Seen(opening, [], [], [], {who: Floor(0, None) for who in tasks}, Floor(0, None), 0, None)
 
 
 def known(ops, moment):
@@ -53,13 +57,27 @@ def lost(seen, moment):
     return at, {line for op, line in zip(seen.ops, seen.lines) if op.ends == at}
 
 
+def higher(floor, at, number):
+    return Floor(at, number) if floor.line is None or at > floor.at else floor
+
+
+def raise_task(seen, who, at, number):
+    """What is seen with a floor of one task: where each has one, the least of them is one of all."""
+    tasks = {**seen.tasks, who: higher(seen.tasks[who], at, number)}
+    least = min(it.at for it in tasks.values())
+    return seen._replace(tasks=tasks, all=higher(seen.all, least, number) if least > seen.all.at else seen.all)
+
+
 def take_floor(seen, number, found):
     must("begin" in found, number, "missing begin")
     must(is_whole(found["begin"]), number, "shape of begin")
-    at, floor = found["begin"], seen.floor
-    if floor is None or at > seen.at:
-        seen = seen._replace(at=at, floor=number)
-    return seen._replace(floors=seen.floors + 1)
+    who, at = found.get("who"), found["begin"]
+    must(who is None or is_whole(who), number, "shape of who")
+    seen = seen._replace(floors=seen.floors + 1)
+    if who is None or not seen.tasks:
+        return seen._replace(all=higher(seen.all, at, number))
+    must(who in seen.tasks, number, "law of who")
+    return raise_task(seen, who, at, number)
 
 
 def take_end(seen, number, found):
@@ -75,9 +93,14 @@ def take_operation(seen, number, found):
     key = exchanges.record_of(found.get("key"))
     must(not seen.ops or key == seen.keys[0], number, "law of key")
     must(found["kind"] != "refused", number, "missing limit")
-    must(seen.floor is None or found["begin"] >= seen.at, number, f"begins below the floor of line {seen.floor}")
+    must(not seen.tasks or found["who"] in seen.tasks, number, "law of who")
+    for floor in (seen.tasks.get(found["who"], seen.all), seen.all):
+        must(found["begin"] >= floor.at, number, f"begins below the floor of line {floor.line}")
     op, _ = exchanges.meaning(seen.opening, found)
-    return seen._replace(ops=[*seen.ops, op], lines=[*seen.lines, number], keys=[*seen.keys, key])
+    seen = seen._replace(ops=[*seen.ops, op], lines=[*seen.lines, number], keys=[*seen.keys, key])
+    if not seen.tasks or found["end"] is None:
+        return seen
+    return raise_task(seen, found["who"], found["end"], number)
 
 
 def take(seen, number, line):
@@ -97,9 +120,9 @@ def watch(data):
     must(lines, 1, "not JSON")
     seen = header_in(lines[0])
     for number, line in enumerate(lines[1:], 2):
-        before, seen = seen.at, take(seen, number, line)
-        if seen.at > before:
-            told = lost(seen, seen.at)
+        before, seen = seen.all.at, take(seen, number, line)
+        if seen.all.at > before:
+            told = lost(seen, seen.all.at)
             if told:
                 return told
     return lost(seen, float("inf")) or seen

@@ -34,14 +34,16 @@ own_stays first (d ∷ calls) c zero l = refl
 own_stays first (d ∷ calls) c (suc k) l = own_stays d.chosen calls c k (omega arith)
 
 -- an access of a call is within its steps
-access_within : (width n access : ℕ) (tells : Bool) → (tells ≡ true → access < (n - 1) + (n - 1)) → (tells ≡ false → access < n - 1) →
-    access * width + width ≤ steps_of_call width n tells
-access_within width n access true l m =
+access_within : (width n access : ℕ) (tells finds : Bool) → (tells ≡ true → access < (n - 1) + (n - 1)) →
+    (tells ≡ false → access < n - 1) → access * width + width ≤ steps_of_call width n tells finds
+access_within width n access true finds l m =
     let r : access * width + width ≤ ((n - 1) + (n - 1)) * width = later_operation width access ((n - 1) + (n - 1)) (l refl) in
     let s : ((n - 1) + (n - 1)) * width ≡ (n - 1) * width + (n - 1) * width = add-mul (n - 1) (n - 1) width in
     omega arith
-access_within width n access false l m =
-    let r : access * width + width ≤ (n - 1) * width = later_operation width access (n - 1) (m refl) in omega arith
+access_within width n access false finds l m =
+    let r : access * width + width ≤ (n - 1) * width = later_operation width access (n - 1) (m refl) in
+    let c : (n - 1) * width ≤ steps_of_call width n false finds = column_steps width n false finds in
+    omega arith
 
 module _ {V : Type 0} (width n : ℕ) (old new : Did V) (call : Called V) (steps : List ℕ) (calls : new.calls ≡ old.calls ++ call ∷ [])
     (times : new.times ≡ old.times ++ steps) (long : length old.times ≡ steps_before width n old.calls (length old.calls)) where
@@ -55,11 +57,11 @@ module _ {V : Type 0} (width n : ℕ) (old new : Did V) (call : Called V) (steps
   told_same k l = ap (λ cs. told cs k) calls ∙ told_stays old.calls call k l
 
   -- a step of an earlier call stays where it is, and one of the last call follows
-  earlier : (k at : ℕ) (c : Called V) → slice_get old.calls k ≡ Some c → at < steps_of_call width n c.tells →
+  earlier : (k at : ℕ) (c : Called V) → slice_get old.calls k ≡ Some c → at < steps_of_call width n c.tells c.finds →
       slice_get new.times (steps_before width n new.calls k + at) ≡ slice_get old.times (steps_before width n old.calls k + at)
   earlier k at c e la =
       let l : k < length old.calls = slice_get_within old.calls k c e in
-      let next : steps_before width n old.calls (suc k) ≡ steps_before width n old.calls k + steps_of_call width n c.tells =
+      let next : steps_before width n old.calls (suc k) ≡ steps_before width n old.calls k + steps_of_call width n c.tells c.finds =
       steps_next width n old.calls k c e in
       let room : steps_before width n old.calls (suc k) ≤ steps_before width n old.calls (length old.calls) =
       steps_rise width n old.calls (suc k) (length old.calls) (omega arith) in
@@ -80,8 +82,8 @@ module _ {V : Type 0} (width n : ℕ) (old new : Did V) (call : Called V) (steps
     ended = λ k l. ended k l;
   }
     where
-      room : (tells : Bool) → access * width + width ≤ steps_of_call width n tells
-      room tells = access_within width n access tells (λ t. omega arith) (λ t. within)
+      room : (tells finds : Bool) → access * width + width ≤ steps_of_call width n tells finds
+      room tells finds = access_within width n access tells finds (λ t. omega arith) (λ t. within)
 
       begun : (k : ℕ) → k < length new.calls →
           slice_get begins' k ≡ slice_get new.times (steps_before width n new.calls k + access * width)
@@ -89,7 +91,7 @@ module _ {V : Type 0} (width n : ℕ) (old new : Did V) (call : Called V) (steps
         | inl lt ↦
             let x = h.all.0 in
             let c = get_exists old.calls k lt in
-            let r : access * width + width ≤ steps_of_call width n c.0.tells = room c.0.tells in
+            let r : access * width + width ≤ steps_of_call width n c.0.tells c.0.finds = room c.0.tells c.0.finds in
             ap (λ bs. slice_get bs k) is.begun ∙ get_pushed begins is.begin k (λ e. omega arith) ∙ h.begun k lt
             ∙ sym (earlier k (access * width) c.0 c.1 (omega arith))
         | inr ge ↦
@@ -105,7 +107,7 @@ module _ {V : Type 0} (width n : ℕ) (old new : Did V) (call : Called V) (steps
         | inl lt ↦
             let x = h.all.1 in
             let c = get_exists old.calls k lt in
-            let r : access * width + width ≤ steps_of_call width n c.0.tells = room c.0.tells in
+            let r : access * width + width ≤ steps_of_call width n c.0.tells c.0.finds = room c.0.tells c.0.finds in
             ap (λ bs. slice_get bs k) is.ended ∙ get_pushed ends is.end k (λ e. omega arith) ∙ h.ended k lt
             ∙ sym (earlier k (access * width + (width - 1)) c.0 c.1 (omega arith))
         | inr ge ↦
@@ -124,7 +126,7 @@ module _ {V : Type 0} (width n : ℕ) (old new : Did V) (call : Called V) (steps
     begun = λ k c e t. elim (get_pushed_cases old.calls call k c (ap (λ cs. slice_get cs k) (sym calls) ∙ e)) [
       | inl was ↦
           let x = h.all.0 in
-          let r : access * width + width ≤ steps_of_call width n c.tells = room c t in
+          let r : access * width + width ≤ steps_of_call width n c.tells c.finds = room c t in
           let below = told_below k c was t in
           ap (λ bs. slice_get bs (told new.calls k)) is.begun
           ∙ ap (slice_get (begins ++ if_there (slice_get steps (access * width)))) (told_same k (old_inside k c was))
@@ -141,7 +143,7 @@ module _ {V : Type 0} (width n : ℕ) (old new : Did V) (call : Called V) (steps
     ended = λ k c e t. elim (get_pushed_cases old.calls call k c (ap (λ cs. slice_get cs k) (sym calls) ∙ e)) [
       | inl was ↦
           let x = h.all.1 in
-          let r : access * width + width ≤ steps_of_call width n c.tells = room c t in
+          let r : access * width + width ≤ steps_of_call width n c.tells c.finds = room c t in
           let below = told_below k c was t in
           ap (λ bs. slice_get bs (told new.calls k)) is.ended
           ∙ ap (slice_get (ends ++ if_there (slice_get steps (access * width + (width - 1))))) (told_same k (old_inside k c was))
@@ -157,8 +159,8 @@ module _ {V : Type 0} (width n : ℕ) (old new : Did V) (call : Called V) (steps
     ];
   }
     where
-      room : (c : Called V) → c.tells ≡ true → access * width + width ≤ steps_of_call width n c.tells
-      room c t = access_within width n access c.tells (λ u. within) (λ f. absurd (not_both c.tells t f))
+      room : (c : Called V) → c.tells ≡ true → access * width + width ≤ steps_of_call width n c.tells c.finds
+      room c t = access_within width n access c.tells c.finds (λ u. within) (λ f. absurd (not_both c.tells t f))
 
       old_inside : (k : ℕ) (c : Called V) → slice_get old.calls k ≡ Some c → k ≤ length old.calls
       old_inside k c was = let l : k < length old.calls = slice_get_within old.calls k c was in omega arith
@@ -185,7 +187,7 @@ module _ {V : Type 0} (width n limit : ℕ) (first : Stamped V) (i : ℕ) where
         let next : steps_before width n new.calls (suc (length old.calls))
         ≡ steps_before width n new.calls (length old.calls) + ((n - 1) * width + (n - 1) * width) =
         steps_next width n new.calls (length old.calls) call at_last
-        ∙ ap (λ b. steps_before width n new.calls (length old.calls) + steps_of_call width n b) m.tells in
+        ∙ ap (λ b. steps_before width n new.calls (length old.calls) + steps_of_call width n b call.finds) m.tells in
         let same : steps_before width n new.calls (length old.calls) ≡ steps_before width n old.calls (length old.calls) =
         before_same width n old new call m.steps m.calls m.times h.long (length old.calls) (omega arith) in
         let all : steps_before width n new.calls (length new.calls) ≡ steps_before width n new.calls (suc (length old.calls)) =
@@ -195,7 +197,7 @@ module _ {V : Type 0} (width n limit : ℕ) (first : Stamped V) (i : ℕ) where
       | inl was ↦
           let z : steps_before width n new.calls k + 0 ≡ steps_before width n new.calls k = omega arith in
           let y : steps_before width n old.calls k + 0 ≡ steps_before width n old.calls k = omega arith in
-          ap (slice_get new.times) (sym z) ∙ earlier width n old new call m.steps m.calls m.times h.long k 0 c was (least c.tells)
+          ap (slice_get new.times) (sym z) ∙ earlier width n old new call m.steps m.calls m.times h.long k 0 c was (least c.tells c.finds)
           ∙ ap (slice_get old.times) y ∙ h.begun k c was
       | inr now ↦
           let z : steps_before width n new.calls (length old.calls) ≡ steps_before width n new.calls (length old.calls) + 0 = omega arith in
@@ -214,8 +216,8 @@ module _ {V : Type 0} (width n limit : ℕ) (first : Stamped V) (i : ℕ) where
     written = λ e l x a at.
         ap (λ ys. slice_get ys x) (ap records m.calls ∙ records_more old.calls call m.tells
         ∙ ap (λ ys. ys ++ call.chosen ∷ []) (sym (h.written e l))) ∙ m.items e l x a at;
-    silent = λ k c e t. elim (get_pushed_cases old.calls call k c (ap (λ cs. slice_get cs k) (sym m.calls) ∙ e)) [
-      | inl was ↦ h.silent k c was t ∙ sym (own_same k (let l : k < length old.calls = slice_get_within old.calls k c was in omega arith))
+    silent = λ k c e t f. elim (get_pushed_cases old.calls call k c (ap (λ cs. slice_get cs k) (sym m.calls) ∙ e)) [
+      | inl was ↦ h.silent k c was t f ∙ sym (own_same k (let l : k < length old.calls = slice_get_within old.calls k c was in omega arith))
       | inr now ↦ absurd (not_both call.tells m.tells (ap (λ (z : Called V). z.tells) now.1 ∙ t))
     ];
     sees = λ k c e. saw k c e;
@@ -233,10 +235,10 @@ module _ {V : Type 0} (width n limit : ℕ) (first : Stamped V) (i : ℕ) where
       at_last : slice_get new.calls (length old.calls) ≡ Some call
       at_last = ap (λ cs. slice_get cs (length old.calls)) m.calls ∙ get_last old.calls call (length old.calls) refl
 
-      least : (tells : Bool) → 0 < steps_of_call width n tells
-      least tells =
+      least : (tells finds : Bool) → 0 < steps_of_call width n tells finds
+      least tells finds =
           let a : 0 * width + width ≤ (n - 1) * width = later_operation width 0 (n - 1) (omega arith) in
-          let b : (n - 1) * width ≤ steps_of_call width n tells = column_steps width n tells in
+          let b : (n - 1) * width ≤ steps_of_call width n tells finds = column_steps width n tells finds in
           omega arith
 
       own_same : (k : ℕ) → k ≤ length old.calls → own_before first new.calls k ≡ own_before first old.calls k
@@ -284,8 +286,8 @@ module _ {V : Type 0} (width n limit : ℕ) (first : Stamped V) (i : ℕ) where
         | inl was ↦
             let lk : k < length old.calls = slice_get_within old.calls k c was in
             let a : 0 * width + width ≤ (n - 1) * width = later_operation width 0 (n - 1) (omega arith) in
-            let b : (n - 1) * width ≤ steps_of_call width n c.tells = column_steps width n c.tells in
-            let next : steps_before width n old.calls (suc k) ≡ steps_before width n old.calls k + steps_of_call width n c.tells =
+            let b : (n - 1) * width ≤ steps_of_call width n c.tells c.finds = column_steps width n c.tells c.finds in
+            let next : steps_before width n old.calls (suc k) ≡ steps_before width n old.calls k + steps_of_call width n c.tells c.finds =
             steps_next width n old.calls k c was in
             let r : steps_before width n old.calls (suc k) ≤ steps_before width n old.calls (length old.calls) =
             steps_rise width n old.calls (suc k) (length old.calls) (omega arith) in
@@ -316,15 +318,15 @@ module _ {V : Type 0} (width n limit : ℕ) (first : Stamped V) (i : ℕ) where
     begun = λ k c e.
         let w = was k c e in
         let z : steps_before width n old.calls k + 0 ≡ steps_before width n old.calls k = omega arith in
-        ap (slice_get new.times) (ap (λ cs. steps_before width n cs k) m.calls ∙ sym z) ∙ stays k 0 c w (least c.tells)
+        ap (slice_get new.times) (ap (λ cs. steps_before width n cs k) m.calls ∙ sym z) ∙ stays k 0 c w (least c.tells c.finds)
         ∙ ap (slice_get old.times) z ∙ h.begun k c w;
     chose = λ k c e.
         let w = was k c e in
         let lk : k < length old.calls = slice_get_within old.calls k c w in
-        let a = least c.tells in
-        let b : (n - 1) * width ≤ steps_of_call width n c.tells = column_steps width n c.tells in
+        let a = least c.tells c.finds in
+        let b : (n - 1) * width ≤ steps_of_call width n c.tells c.finds = column_steps width n c.tells c.finds in
         let d : 0 * width + width ≤ (n - 1) * width = later_operation width 0 (n - 1) (omega arith) in
-        let next : steps_before width n old.calls (suc k) ≡ steps_before width n old.calls k + steps_of_call width n c.tells =
+        let next : steps_before width n old.calls (suc k) ≡ steps_before width n old.calls k + steps_of_call width n c.tells c.finds =
         steps_next width n old.calls k c w in
         let r : steps_before width n old.calls (suc k) ≤ steps_before width n old.calls (length old.calls) =
         steps_rise width n old.calls (suc k) (length old.calls) (omega arith) in
@@ -338,14 +340,14 @@ module _ {V : Type 0} (width n limit : ℕ) (first : Stamped V) (i : ℕ) where
     writes = λ e l. record {
       begun = λ k c at t.
           let w = was k c at in
-          let r : (n - 1 + e) * width + width ≤ steps_of_call width n c.tells = write_room e c.tells l t in
+          let r : (n - 1 + e) * width + width ≤ steps_of_call width n c.tells c.finds = write_room e c.tells c.finds l t in
           ap (λ (z : Written V). slice_get z.begins (told new.calls k)) (m.writes e l)
           ∙ ap (λ cs. slice_get (old.writes (other i e)).begins (told cs k)) m.calls ∙ (h.writes e l).begun k c w t
           ∙ sym (stays k ((n - 1 + e) * width) c w (omega arith))
           ∙ ap (λ cs. slice_get new.times (steps_before width n cs k + (n - 1 + e) * width)) (sym m.calls);
       ended = λ k c at t.
           let w = was k c at in
-          let r : (n - 1 + e) * width + width ≤ steps_of_call width n c.tells = write_room e c.tells l t in
+          let r : (n - 1 + e) * width + width ≤ steps_of_call width n c.tells c.finds = write_room e c.tells c.finds l t in
           ap (λ (z : Written V). slice_get z.ends (told new.calls k)) (m.writes e l)
           ∙ ap (λ cs. slice_get (old.writes (other i e)).ends (told cs k)) m.calls ∙ (h.writes e l).ended k c w t
           ∙ sym (stays k ((n - 1 + e) * width + (width - 1)) c w (omega arith))
@@ -353,7 +355,7 @@ module _ {V : Type 0} (width n limit : ℕ) (first : Stamped V) (i : ℕ) where
     };
     written = λ e l x a at.
         ap (λ ys. slice_get ys x) (ap records m.calls ∙ sym (h.written e l) ∙ ap (λ (z : Written V). z.items) (sym (m.writes e l))) ∙ at;
-    silent = λ k c e t. h.silent k c (was k c e) t ∙ ap (λ cs. own_before first cs k) (sym m.calls);
+    silent = λ k c e t f. h.silent k c (was k c e) t f ∙ ap (λ cs. own_before first cs k) (sym m.calls);
     sees = λ k c e.
         let s = h.sees k c (was k c e) in
         record {
@@ -370,20 +372,21 @@ module _ {V : Type 0} (width n limit : ℕ) (first : Stamped V) (i : ℕ) where
       was : (k : ℕ) (c : Called V) → slice_get new.calls k ≡ Some c → slice_get old.calls k ≡ Some c
       was k c e = ap (λ cs. slice_get cs k) (sym m.calls) ∙ e
 
-      least : (tells : Bool) → 0 < steps_of_call width n tells
-      least tells =
+      least : (tells finds : Bool) → 0 < steps_of_call width n tells finds
+      least tells finds =
           let a : 0 * width + width ≤ (n - 1) * width = later_operation width 0 (n - 1) (omega arith) in
-          let b : (n - 1) * width ≤ steps_of_call width n tells = column_steps width n tells in
+          let b : (n - 1) * width ≤ steps_of_call width n tells finds = column_steps width n tells finds in
           omega arith
 
-      write_room : (e : ℕ) (tells : Bool) → e + 1 < n → tells ≡ true → (n - 1 + e) * width + width ≤ steps_of_call width n tells
-      write_room e tells l t = access_within width n (n - 1 + e) tells (λ u. omega arith) (λ f. absurd (not_both tells t f))
+      write_room : (e : ℕ) (tells finds : Bool) → e + 1 < n → tells ≡ true →
+          (n - 1 + e) * width + width ≤ steps_of_call width n tells finds
+      write_room e tells finds l t = access_within width n (n - 1 + e) tells finds (λ u. omega arith) (λ f. absurd (not_both tells t f))
 
-      stays : (k at : ℕ) (c : Called V) → slice_get old.calls k ≡ Some c → at < steps_of_call width n c.tells →
+      stays : (k at : ℕ) (c : Called V) → slice_get old.calls k ≡ Some c → at < steps_of_call width n c.tells c.finds →
           slice_get new.times (steps_before width n old.calls k + at) ≡ slice_get old.times (steps_before width n old.calls k + at)
       stays k at c e la =
           let l : k < length old.calls = slice_get_within old.calls k c e in
-          let next : steps_before width n old.calls (suc k) ≡ steps_before width n old.calls k + steps_of_call width n c.tells =
+          let next : steps_before width n old.calls (suc k) ≡ steps_before width n old.calls k + steps_of_call width n c.tells c.finds =
           steps_next width n old.calls k c e in
           let room : steps_before width n old.calls (suc k) ≤ steps_before width n old.calls (length old.calls) =
           steps_rise width n old.calls (suc k) (length old.calls) (omega arith) in
@@ -391,10 +394,10 @@ module _ {V : Type 0} (width n limit : ℕ) (first : Stamped V) (i : ℕ) where
           ap (λ ts. slice_get ts (steps_before width n old.calls k + at)) m.times
           ∙ get_before old.times m.steps (steps_before width n old.calls k + at) (omega arith)
 
-      read_room : (e : ℕ) (tells : Bool) → e + 1 < n → e * width + width ≤ steps_of_call width n tells
-      read_room e tells l =
+      read_room : (e : ℕ) (tells finds : Bool) → e + 1 < n → e * width + width ≤ steps_of_call width n tells finds
+      read_room e tells finds l =
           let a : e * width + width ≤ (n - 1) * width = later_operation width e (n - 1) (omega arith) in
-          let b : (n - 1) * width ≤ steps_of_call width n tells = column_steps width n tells in
+          let b : (n - 1) * width ≤ steps_of_call width n tells finds = column_steps width n tells finds in
           omega arith
 
       read_begun : (e k : ℕ) → e + 1 < n → k < length new.calls →
@@ -404,7 +407,7 @@ module _ {V : Type 0} (width n limit : ℕ) (first : Stamped V) (i : ℕ) where
           let lo : k < length old.calls = omega arith in
           let c = get_exists old.calls k lo in
           let a = (h.reads e l).all.0 in
-          let r : e * width + width ≤ steps_of_call width n c.0.tells = read_room e c.0.tells l in
+          let r : e * width + width ≤ steps_of_call width n c.0.tells c.0.finds = read_room e c.0.tells c.0.finds l in
           ap (λ bs. slice_get bs k) (m.reads e l).begun
           ∙ get_before (old.reads (other i e)).begins (if_there (slice_get m.steps (e * width))) k (omega arith)
           ∙ (h.reads e l).begun k lo ∙ sym (stays k (e * width) c.0 c.1 (omega arith))
@@ -417,7 +420,7 @@ module _ {V : Type 0} (width n limit : ℕ) (first : Stamped V) (i : ℕ) where
           let lo : k < length old.calls = omega arith in
           let c = get_exists old.calls k lo in
           let a = (h.reads e l).all.1 in
-          let r : e * width + width ≤ steps_of_call width n c.0.tells = read_room e c.0.tells l in
+          let r : e * width + width ≤ steps_of_call width n c.0.tells c.0.finds = read_room e c.0.tells c.0.finds l in
           ap (λ bs. slice_get bs k) (m.reads e l).ended
           ∙ get_before (old.reads (other i e)).ends (if_there (slice_get m.steps (e * width + (width - 1)))) k (omega arith)
           ∙ (h.reads e l).ended k lo ∙ sym (stays k (e * width + (width - 1)) c.0 c.1 (omega arith))

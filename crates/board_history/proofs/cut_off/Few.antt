@@ -12,7 +12,8 @@ use Rattle.matrix_core.specs.Choices.{ChoosesByKind}
 use Rattle.matrix_core.specs.Stamps.{greatest}
 use Rattle.matrix_core.specs.Lines.{other}
 use Rattle.matrix_core.specs.Listings.{MayPrecede}
-use Rattle.board_history.specs.BoardRuns.{Answered, Called, Did, IsRegister, own_before, Sees, steps_before, steps_of_call, told, Written}
+use Rattle.board_history.specs.BoardRuns.{Answered, Called, Did, FindWhatWasTold, IsRegister, own_before, Sees, steps_before}
+use Rattle.board_history.specs.BoardRuns.{steps_of_call, told, Written}
 use Rattle.board_history.specs.CutOffInstances.{answered}
 use Rattle.board_history.specs.Instances.{zero_first}
 use Rattle.board_history.specs.RunsSoFar.{IsProcessSoFar}
@@ -32,7 +33,7 @@ module _ (width n i : ℕ) (times : List ℕ) (call : Called ℕ) (writes : ℕ 
     pub written : EachAt (λ k x. slice_get (call.chosen ∷ []) k ≡ Some x) (writes j).items
 
   -- a process that made one call
-  pub one_call : call.tells ≡ true → length times ≤ steps_of_call width n call.tells + 0 + (n - 1) * width →
+  pub one_call : call.tells ≡ true → length times ≤ steps_of_call width n call.tells call.finds + 0 + (n - 1) * width →
       slice_get times 0 ≡ Some call.begin →
       (t : ℕ) × (slice_get times (0 + ((n - 1) * width - 1)) ≡ Some t) → ((e : ℕ) → e + 1 < n → IsPartOf e (other i e)) →
       (answers : List (Stamped ℕ)) → length answers + 1 ≡ n → EachAt (λ e x. slice_get (reads (other i e)).items 0 ≡ Some x) answers →
@@ -55,8 +56,8 @@ module _ (width n i : ℕ) (times : List ℕ) (call : Called ℕ) (writes : ℕ 
     };
     written = λ e l x a h. ap (λ b. slice_get (if b then call.chosen ∷ [] else []) x) tells
         ∙ each_at (λ k x. slice_get (call.chosen ∷ []) k ≡ Some x) (writes (other i e)).items (parts e l).written x a h;
-    silent = each_at (λ k c. c.tells ≡ false → c.chosen ≡ own_before zero_first (call ∷ []) k) (call ∷ [])
-        ((λ f. absurd (not_both call.tells tells f)), tt);
+    silent = each_at (λ k c. c.tells ≡ false → c.finds ≡ false → c.chosen ≡ own_before zero_first (call ∷ []) k) (call ∷ [])
+        ((λ f g. absurd (not_both call.tells tells f)), tt);
     sees = each_at (λ k c. Sees n zero_first i did k c.seen) (call ∷ []) (
       record {
         answers = answers;
@@ -92,10 +93,15 @@ none_chosen width n i times writes reads long unwritten = record {
   reads = λ e l. record { begun = λ k m. absurd (omega arith); ended = λ k m. absurd (omega arith) };
   writes = λ e l. record { begun = λ k c h t. absurd (none-some c h); ended = λ k c h t. absurd (none-some c h) };
   written = λ e l x a h. ap (λ ys. slice_get ys x) (sym (unwritten (other i e))) ∙ h;
-  silent = λ k c e t. absurd (none-some c e);
+  silent = λ k c e t f. absurd (none-some c e);
   sees = λ k c e. absurd (none-some c e);
   chooses = λ k place c e. absurd (none-some c e);
 }
+
+-- calls of which none finds anything
+pub none_find : (width n : ℕ) (run : ℕ → Did ℕ) →
+    ((i k : ℕ) (c : Called ℕ) → slice_get (run i).calls k ≡ Some c → c.finds ≡ false) → FindWhatWasTold width n run
+none_find width n run none i k end c l e t f g = absurd (not_both c.finds f (none i k c e))
 
 -- a register that was never read, or whose read hasn't ended
 pub not_read : (w : Written ℕ) (begins ends : List ℕ) →

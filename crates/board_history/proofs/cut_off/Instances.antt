@@ -1,6 +1,6 @@
 -- The three runs: every list has few elements, so each fact computes at its places.
 use Rattle.std.proofs.Common.{◌≡◌, ◌≢◌, ℕ, zero, suc, ◌+◌, ◌<◌, List, [], ◌∷◌, slice_get, Option, None, Some}
-use Rattle.std.proofs.Common.{refl, ap, subst, arith, inl, inr, ◌⊎◌}
+use Rattle.std.proofs.Common.{true, false, refl, ap, subst, arith, inl, inr, ◌⊎◌}
 use Rattle.std.specs.Prelude.{if◌then◌else◌}
 use Rattle.std.proofs.lemmas.Option.{none-some, same_Some}
 use Rattle.history_core.specs.declared.history.Op.{Op}
@@ -12,15 +12,16 @@ use Rattle.matrix_core.specs.declared.stamp.Stamped.{Stamped}
 use Rattle.matrix_core.specs.Stamps.{first_stamp}
 use Rattle.matrix_core.specs.Lines.{other}
 use Rattle.matrix_core.specs.Listings.{IsInOrder, is_listed}
-use Rattle.board_history.specs.BoardRuns.{Did, IsRegister}
+use Rattle.board_history.specs.BoardRuns.{Called, Did, end_of, IsRegister}
 use Rattle.board_history.specs.CutOffInstances.{answered, cell_ops, cell_run, cell_stamps, cell_steps, column_ops, column_run}
-use Rattle.board_history.specs.CutOffInstances.{column_stamps}
+use Rattle.board_history.specs.CutOffInstances.{column_stamps, kept_run, kept_steps}
 use Rattle.board_history.specs.CutOffInstances.{column_steps, IsWorkedOut, read_call, read_op, row_ops, row_run, row_run_of, row_stamps}
 use Rattle.board_history.specs.CutOffInstances.{row_steps, write_call, write_op, written}
 use Rattle.board_history.specs.HistoriesSoFar.{IsOpOfCallSoFar, IsHistorySoFar, IsUnchosenCall}
 use Rattle.board_history.specs.Instances.{seven, zero_first}
 use Rattle.board_history.specs.RunsSoFar.{IsBoardRunSoFar, IsProcessSoFar, unchosen_begin}
-use Rattle.board_history.proofs.cut_off.Few.{IsPartOf, none_chosen, not_read, one_call, read_first, two_sorted}
+use Rattle.board_history.proofs.Growing.{not_both}
+use Rattle.board_history.proofs.cut_off.Few.{IsPartOf, none_chosen, none_find, not_read, one_call, read_first, two_sorted}
 use Rattle.board_history.proofs.cut_off.Places.{below, each_at, EachAt, each_pair}
 
 column_each : (i : ℕ) → i < 2 → IsProcessSoFar 2 2 5 zero_first i (column_run i)
@@ -39,9 +40,14 @@ column_is_run = record {
       (omega arith, (omega arith, (omega arith, (omega arith, (omega arith, tt)))));
   scheduled = below (λ i. (column_run i).times ≡ positions 1 i column_steps) 2 (refl, (refl, tt));
   each = column_each;
+  finds = none_find 2 2 column_run none;
   registers = λ i j li lj ne. registers i j li lj ne;
 }
   where
+    none : (i k : ℕ) (c : Called ℕ) → slice_get (column_run i).calls k ≡ Some c → c.finds ≡ false
+    none zero = each_at (λ k c. c.finds ≡ false) (column_run 0).calls (refl, tt)
+    none (suc i) = each_at (λ k c. c.finds ≡ false) [] tt
+
     registers : (i j : ℕ) → i < 2 → j < 2 → i ≢ j → IsRegister zero_first ((column_run i).writes j) ((column_run j).reads i)
     registers zero zero li lj ne = absurd (ne refl)
     registers zero (suc zero) li lj ne = not_read ((column_run 0).writes 1) (5 ∷ []) []
@@ -173,9 +179,15 @@ row_is_run = record {
       (omega arith, (omega arith, (omega arith, (omega arith, (omega arith, (omega arith, (omega arith, tt)))))));
   scheduled = below (λ i. (row_run i).times ≡ positions 1 i row_steps) 3 (refl, (refl, (refl, tt)));
   each = row_each;
+  finds = none_find 1 3 row_run none;
   registers = λ i j li lj ne. registers i j li lj ne;
 }
   where
+    none : (i k : ℕ) (c : Called ℕ) → slice_get (row_run i).calls k ≡ Some c → c.finds ≡ false
+    none zero = each_at (λ k c. c.finds ≡ false) (row_run 0).calls (refl, tt)
+    none (suc zero) = each_at (λ k c. c.finds ≡ false) (row_run 1).calls (refl, tt)
+    none (suc (suc i)) = each_at (λ k c. c.finds ≡ false) [] tt
+
     registers : (i j : ℕ) → i < 3 → j < 3 → i ≢ j → IsRegister zero_first ((row_run i).writes j) ((row_run j).reads i)
     registers zero zero li lj ne = absurd (ne refl)
     registers zero (suc zero) li lj ne = told
@@ -277,9 +289,14 @@ cell_is_run = record {
   );
   scheduled = below (λ i. (cell_run i).times ≡ positions 1 i cell_steps) 2 (refl, (refl, tt));
   each = cell_each;
+  finds = none_find 3 2 cell_run none;
   registers = λ i j li lj ne. registers i j li lj ne;
 }
   where
+    none : (i k : ℕ) (c : Called ℕ) → slice_get (cell_run i).calls k ≡ Some c → c.finds ≡ false
+    none zero = each_at (λ k c. c.finds ≡ false) (cell_run 0).calls (refl, tt)
+    none (suc i) = each_at (λ k c. c.finds ≡ false) (cell_run 1).calls (refl, tt)
+
     registers : (i j : ℕ) → i < 2 → j < 2 → i ≢ j → IsRegister zero_first ((cell_run i).writes j) ((cell_run j).reads i)
     registers zero zero li lj ne = absurd (ne refl)
     registers zero (suc zero) li lj ne = read_first ((cell_run 0).writes 1) 5 7 tt
@@ -360,3 +377,19 @@ no_stale number run =
     later zero l e = omega arith
     later (suc zero) l e = differ 1 0 (ap (λ (s : Stamped ℕ). s.stamp.tag) (same_Some seven zero_first e)) (omega arith)
     later (suc (suc n)) l e = none-some zero_first e
+
+-- nor does process 1 keep to itself what it was told, while the write isn't told to process 2
+pub no_kept : IsBoardRunSoFar 1 3 5 zero_first kept_steps kept_run → ⊥
+no_kept run =
+    let w = run.finds 1 0 6 _ (omega arith) refl refl refl refl in
+    no_end w.who w.number w.call w.end w.there w.tells w.ended
+  where
+    none : (i k : ℕ) (c : Called ℕ) → slice_get (kept_run (suc i)).calls k ≡ Some c → c.tells ≡ false
+    none zero = each_at (λ k c. c.tells ≡ false) (kept_run 1).calls (refl, tt)
+    none (suc i) = each_at (λ k c. c.tells ≡ false) [] tt
+
+    no_end : (i k : ℕ) (c : Called ℕ) (end : ℕ) → slice_get (kept_run i).calls k ≡ Some c → c.tells ≡ true →
+        end_of 1 3 (kept_run i) k c ≡ Some end → ⊥
+    no_end zero k c end e t g = each_at (λ k c. end_of 1 3 (kept_run 0) k c ≡ Some end → ⊥) (kept_run 0).calls
+        ((λ g. none-some end g), tt) k c e g
+    no_end (suc i) k c end e t g = not_both c.tells t (none i k c e)

@@ -1,11 +1,13 @@
 -- A call, access by access. Only private functions cite this, which is this project's own; what a
 -- call promises stands in Passes.
-use Rattle.std.specs.Prelude.{◌≡◌, ◌⊎◌, Bool, IsTrue, ℕ, ◌-◌, ◌*◌, ◌<◌, ◌≤◌, List, [], ◌++◌, length, slice_get, Some}
-use Rattle.std.specs.Prelude.{true, false, if◌then◌else◌}
+use Rattle.std.specs.Prelude.{◌≡◌, ◌⊎◌, Bool, IsTrue, ℕ, ◌-◌, ◌*◌, ◌<◌, ◌≤◌, List, [], ◌∷◌, ◌++◌, length, slice_get}
+use Rattle.std.specs.Prelude.{Some, true, false, if◌then◌else◌}
+use Rattle.cell_contract.specs.declared.said.Said.{Said}
+use Rattle.cell_contract.specs.declared.said.Found.{Found}
 use Rattle.cell_contract.specs.declared.times.Times.{Times}
 use Rattle.cell_contract.specs.Running.{last_or}
 use Rattle.cell_contract.specs.declared.family.Family.{Ghosts as FamilyWords}
-use Rattle.cell_contract.specs.Accesses.{IsWriteAccess, KeepsEach}
+use Rattle.cell_contract.specs.Accesses.{FindsTag, IsWriteAccess, KeepsEach}
 use Rattle.cell_contract.specs.Plans.{AreSoFar}
 use Rattle.matrix_core.specs.Lines.{other}
 use Rattle.board_history.specs.Accesses.{IsInterval}
@@ -38,7 +40,11 @@ module _ {V F S T : Type 0} (words : FamilyWords F (Posted V) S T) where
   ShowsAll family seat =
       AreSoFar (MakesCalls (words.opening family) words.width (words.processes family) (words.limit family))
       (words.opening family) (words.processes family) (words.who seat) (words.times seat) (words.writes seat)
-      (words.reads seat)
+      (words.reads seat) (words.said seat) (words.found seat)
+
+  -- no tag was said or found
+  abbrev pub KeepsTags : S → S → Type 0
+  KeepsTags seat seat' = (words.said seat' ≡ words.said seat) × (words.found seat' ≡ words.found seat)
 
   -- the first of the others were read, each once
   pub record HasReadColumn (obeys : V → Bool) (family : F) (process count : ℕ) (seat seat' : S)
@@ -60,6 +66,7 @@ module _ {V F S T : Type 0} (words : FamilyWords F (Posted V) S T) where
     pub sees : seen' ≡ greatest_posted seen answers
     pub lawful : IsTrue (obeys seen'.item)
     pub rises : Rises seen seen'
+    pub tags : KeepsTags seat seat'
 
   -- the record was written to the first of the others, once to each
   pub record HasWrittenRow (family : F) (process count : ℕ) (seat seat' : S) (item : Posted V) : Type 0 where
@@ -76,20 +83,46 @@ module _ {V F S T : Type 0} (words : FamilyWords F (Posted V) S T) where
     pub last : (e : ℕ) (first : Posted V) → e < count →
         last_or first (words.writes seat' (other process e)).items ≡ item
     pub reads : KeepsEach (words.reads seat) (words.reads seat')
+    pub tags : KeepsTags seat seat'
 
-  -- the record was written to each of so many others; or nothing was, since it is the own record, which stands there
-  pub record HasRow (family : F) (process count : ℕ) (seat seat' : S) (own item : Posted V) : Type 0 where
+  -- it was found in one step that the record's writer had said its tag; or it wasn't, and nothing changed
+  pub record LooksForTag (family : F) (seat seat' : S) (item : Posted V) (found : Bool) : Type 0 where
+    pub of : words.is_seat family seat' × (words.who seat' ≡ words.who seat)
+    pub finds : found ≡ true → FindsTag item.stamp.writer item.stamp.tag (words.clock seat) (words.clock seat')
+        (words.times seat) (words.times seat') (words.found seat) (words.found seat')
+    pub unfound : found ≡ false → (words.clock seat' ≡ words.clock seat) × (words.times seat' ≡ words.times seat)
+        × (words.found seat' ≡ words.found seat)
+    pub said : words.said seat' ≡ words.said seat
+    pub calls : KeepsEach (words.writes seat) (words.writes seat') × KeepsEach (words.reads seat) (words.reads seat')
+
+  -- the record was written to each of so many others, and its tag was said, or not; or nothing was, since it is the own
+  -- record, or since its writer was found to have said its tag
+  pub record HasRow (family : F) (process count : ℕ) (seat seat' : S) (own item : Posted V)
+      (told told' : Bool) : Type 0 where
     pub of : words.is_seat family seat' × (words.who seat' ≡ words.who seat)
     pub tells : Bool
+    pub finds : Bool
     pub steps : List ℕ
-    pub long : length steps ≡ (if tells then count * words.width else 0)
+    pub long : length steps ≡ (if tells then count * words.width else (if finds then 1 else 0))
     pub times : words.times seat' ≡ words.times seat ++ steps
     pub span : IsStretch (words.clock seat) (words.clock seat') steps
     pub writes : tells ≡ true → (e : ℕ) → e < count →
         IsIntervalOf words.width steps e (words.writes seat (other process e)).times
         (words.writes seat' (other process e)).times
         × IsWriteAccess (words.writes seat (other process e)) (words.writes seat' (other process e)) item
-    pub unwritten : tells ≡ false → KeepsEach (words.writes seat) (words.writes seat') × (item ≡ own)
+    pub unwritten : tells ≡ false → KeepsEach (words.writes seat) (words.writes seat')
+    pub silent : tells ≡ false → finds ≡ false → (item ≡ own) × (told' ≡ told)
     pub last : tells ≡ true → (e : ℕ) (first : Posted V) → e < count →
         last_or first (words.writes seat' (other process e)).items ≡ item
     pub reads : KeepsEach (words.reads seat) (words.reads seat')
+    pub now_told : tells ≡ true → told' ≡ true
+    pub untold : tells ≡ false → finds ≡ true → told' ≡ false
+    pub says : List Said
+    pub said : words.said seat' ≡ words.said seat ++ says
+    pub truly : (x : ℕ) (s : Said) → slice_get says x ≡ Some s → (tells ≡ true) × (item.stamp.writer ≡ process)
+        × (s.tag ≡ item.stamp.tag) × (s.time ≡ words.clock seat')
+    pub found : words.found seat' ≡ words.found seat ++ (if tells then [] else (if finds then record {
+      who = item.stamp.writer;
+      tag = item.stamp.tag;
+      time = words.clock seat';
+    } ∷ [] else []))

@@ -1,48 +1,40 @@
-//! What a place at a board does.
-ghost use Rattle.std.specs.Prelude.{map};
+//! The calls on a place at a board, where its pass is the board's.
+ghost use Rattle.std.specs.Prelude.{IfSome, IfNone};
 ghost use Rattle.std.specs.Arc.{arc_value};
 ghost use Rattle.board_live.specs.Passes.{IsPass};
-ghost use Rattle.c_boards.specs.Boards.{HasPosted, IsRefused, HasSeen, IsBoardOf};
+ghost use Rattle.c_boards.specs.Boards.{HasPosted, IsRefused, HasSeen};
 
 use super::Place;
-use super::seats::open_places;
-use crate::sits::{Free, Sits, Sitting};
-use board_live::{BoardError, Posted};
+use crate::sits::Free;
+use board_live::Posted;
 use cell_contract::Family;
 use matrix_core::Stamp;
-use std::alloc::Global;
 
-impl<V: Free + Drop, F: Family<Posted<V>>> Sits for Place<V, F> {
-    ghost sits = { λ p. IsPass ⟦<F as Family<Posted<V>>>⟧ V.obeys (arc_value p.board) p.pass.value };
-}
-
-impl<V: Free + Drop, F: Family<Posted<V>>> Sitting<V> for Place<V, F> {
-    ghost has_posted = { λ p q. HasPosted ⟦<F as Family<Posted<V>>>⟧ V.obeys (arc_value p.board)
-        (arc_value q.board) p.pass.value q.pass.value };
-
-    ghost is_refused = { λ p q. IsRefused ⟦<F as Family<Posted<V>>>⟧ V.obeys (arc_value p.board)
-        (arc_value q.board) p.pass.value q.pass.value };
-
-    ghost has_seen = { λ p q. HasSeen ⟦<F as Family<Posted<V>>>⟧ V.obeys (arc_value p.board)
-        (arc_value q.board) p.pass.value q.pass.value };
-
-    ghost is_made = { λ n limit w ss. IsBoardOf ⟦<F as Family<Posted<V>>>⟧ V.obeys n limit w
-        (map (λ s. arc_value s.board) ss) (map (λ s. s.pass.value) ss) };
-
-    fn open(alloc: Global, n: usize, limit: u64, words: V) -> Result<Vec<Place<V, F>>, BoardError> {
-        open_places(alloc, n, limit, words)
-    }
-
+impl<V: Free + Drop, F: Family<Posted<V>>> Place<V, F> {
+    /// Puts the record under the next stamp above all that the process sees. `None` where the tags have ended.
     #[inline]
-    fn post(&mut self, words: &V) -> Option<Stamp> {
+    pub fn post(&mut self, words: &V) -> Option<Stamp>
+        requires { IsPass ⟦<F as Family<Posted<V>>>⟧ V.obeys (arc_value self.old.board) self.old.pass.value }
+        ensures own { IsPass ⟦<F as Family<Posted<V>>>⟧ V.obeys (arc_value self.new.board) self.new.pass.value }
+        ensures posted { IfSome result (λ s. HasPosted ⟦<F as Family<Posted<V>>>⟧ V.obeys (arc_value self.old.board)
+            (arc_value self.new.board) self.old.pass.value self.new.pass.value words.now s) }
+        ensures refused { IfNone result (IsRefused ⟦<F as Family<Posted<V>>>⟧ V.obeys (arc_value self.old.board)
+            (arc_value self.new.board) self.old.pass.value self.new.pass.value) }
+    {
         match self.board.write(self.pass.as_mut(), *words) {
             Ok(stamp) => Some(stamp),
             Err(_) => None,
         }
     }
 
+    /// Gives the greatest record that the process sees.
     #[inline]
-    fn see(&mut self) -> Posted<V> {
+    pub fn see(&mut self) -> Posted<V>
+        requires { IsPass ⟦<F as Family<Posted<V>>>⟧ V.obeys (arc_value self.old.board) self.old.pass.value }
+        ensures own { IsPass ⟦<F as Family<Posted<V>>>⟧ V.obeys (arc_value self.new.board) self.new.pass.value }
+        ensures seen { HasSeen ⟦<F as Family<Posted<V>>>⟧ V.obeys (arc_value self.old.board)
+            (arc_value self.new.board) self.old.pass.value self.new.pass.value result }
+    {
         self.board.read(self.pass.as_mut())
     }
 }

@@ -1,7 +1,7 @@
 -- What comes of what has come of an input. Only private functions cite this, which is this project's own.
 use Rattle.std.specs.Prelude.{◌≡◌, ℕ, ◌++◌, ◌∷◌, [], List, Option, None, Result, Ok, Err}
 use Rattle.std.specs.Io.KnownBytes.{Consumes}
-use Rattle.read_document.specs.Splits.{lines_of}
+use Rattle.text_lines.specs.Splits.{lines_of}
 use Rattle.watch_lines.specs.Replies.{GoOn, IsToldFrom, StopAt, TellsIf}
 use Rattle.watch_lines.specs.Seen.{LinesSeen}
 use Rattle.watch_lines.specs.Watchers.{KnowsIf}

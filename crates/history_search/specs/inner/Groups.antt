@@ -1,6 +1,6 @@
 -- Groups of operations: all that is of one record. Group 0 is that of the opening, and group w + 1 that of the write at
 -- place w. Only private functions cite this, which is this project's own.
-use Rattle.std.specs.Prelude.{◌≡◌, ℕ, ◌+◌, ◌-◌, ◌<◌, ◌≤◌, Bool, true, false, List, length}
+use Rattle.std.specs.Prelude.{◌≡◌, ℕ, ◌+◌, ◌-◌, ◌<◌, ◌≤◌, Bool, true, false, List, length, map, option_map}
 use Rattle.std.specs.Prelude.{slice_get, Option, None, Some, IsSome}
 use Rattle.std.specs.Prelude.{nat_lt, if◌then◌else◌}
 use Rattle.std.specs.Option.{option_and_then}
@@ -14,6 +14,7 @@ use Rattle.history_core.specs.declared.history.Kind.TheVariants.{Write, Read, Re
 use Rattle.history_core.specs.Orders.{is_write}
 use Rattle.history_core.specs.declared.reason.SearchError.{SearchError}
 use Rattle.history_core.specs.declared.reason.SearchError.TheVariants.{NoMemory, WritesOpening, WritesTwice}
+use Rattle.history_search.specs.declared.span.Marks.{Marks}
 use Rattle.history_search.specs.declared.span.Moment.{Moment}
 use Rattle.history_search.specs.declared.span.Span.{Span}
 use Rattle.history_core.specs.Reasons.{counts, IsOfOpening, OfOneRecord}
@@ -123,6 +124,60 @@ joined_span span o place = record {
 
 abbrev pub empty_span : Span
 empty_span = record { ends = None; begins = None; refused = None }
+
+-- the place that stands for no operation: 2^32 - 1
+abbrev pub nowhere : ℕ
+nowhere = 4294967295
+
+-- when the operation of this place ends and begins, and the place itself, if there is one
+abbrev pub ending : {R : Type 0} → Option (Op R) → ℕ → Option Moment
+ending None place = None
+ending (Some o) place = option_map (λ end. record { at = end; place = place }) o.ends
+
+abbrev pub beginning : {R : Type 0} → Option (Op R) → ℕ → Option Moment
+beginning None place = None
+beginning (Some o) place = Some (record { at = o.starts; place = place })
+
+abbrev pub found_at : {R : Type 0} → Option (Op R) → ℕ → Option ℕ
+found_at None place = None
+found_at (Some o) place = Some place
+
+-- the span that marks stand for
+abbrev pub span_in : {R : Type 0} → List (Op R) → Marks → Span
+span_in ops marks = record {
+  ends = ending (slice_get ops marks.ends) marks.ends;
+  begins = beginning (slice_get ops marks.begins) marks.begins;
+  refused = found_at (slice_get ops marks.refused) marks.refused;
+}
+
+abbrev pub spans_in : {R : Type 0} → List (Op R) → List Marks → List Span
+spans_in ops spans = map (span_in ops) spans
+
+abbrev pub empty_marks : Marks
+empty_marks = record { ends = nowhere; begins = nowhere; refused = nowhere }
+
+-- an end is earlier than the earliest so far, and a beginning later than the latest
+abbrev pub ends_first : Option Moment → Option ℕ → Bool
+ends_first ends None = false
+ends_first None (Some end) = true
+ends_first (Some m) (Some end) = nat_lt end m.at
+
+abbrev pub begins_last : Option Moment → ℕ → Bool
+begins_last None starts = true
+begins_last (Some m) starts = nat_lt m.at starts
+
+abbrev pub is_refused : Kind → Bool
+is_refused Refused = true
+is_refused Write = false
+is_refused Read = false
+
+-- marks with one more operation
+abbrev pub joined_marks : {R : Type 0} → List (Op R) → Marks → Op R → ℕ → Marks
+joined_marks ops marks o place = record {
+  ends = if ends_first (ending (slice_get ops marks.ends) marks.ends) o.ends then place else marks.ends;
+  begins = if begins_last (beginning (slice_get ops marks.begins) marks.begins) o.starts then place else marks.begins;
+  refused = if is_refused o.kind then place else marks.refused;
+}
 
 -- the place of the end, where it is before this moment
 abbrev pub ends_before : Option Moment → ℕ → Option ℕ

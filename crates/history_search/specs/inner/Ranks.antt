@@ -5,7 +5,7 @@ use Rattle.std.specs.Prelude.{IsSomeAnd}
 use Rattle.std.specs.Option.{option_and_then}
 use Rattle.std.proofs.Common.{zero, suc}
 use Rattle.history_core.specs.declared.history.Op.{Op}
-use Rattle.history_core.specs.Orders.{is_write, times_of}
+use Rattle.history_core.specs.Orders.{is_write, is_write_at, times_of}
 use Rattle.history_search.specs.declared.rank.Rank.{Rank}
 use Rattle.history_search.specs.declared.span.Moment.{Moment}
 use Rattle.history_search.specs.declared.span.Span.{Span}
@@ -83,6 +83,40 @@ module _ {R : Type 0} (ops : List (Op R)) (groups : List (Option ℕ)) (spans : 
     pub all : (p g : ℕ) (o : Op R) → p < n → Member ops groups p o g → stands_in cut g (slice_get spans g) ≡ true →
         (i : ℕ) × (r : Rank) × (slice_get ranks i ≡ Some r) × (r.place ≡ p)
     pub once : (p : ℕ) → times_of p (map (λ r. r.place) ranks) ≤ 1
+
+-- whether an operation has a group that stands
+abbrev pub stands_with : Option (Option ℕ) → List Span → Option (Option ℕ) → Bool
+stands_with cut spans None = false
+stands_with cut spans (Some None) = false
+stands_with cut spans (Some (Some g)) = stands_in cut g (slice_get spans g)
+
+-- the group of an operation, or else that of the opening
+abbrev pub group_or : Option (Option ℕ) → ℕ
+group_or None = 0
+group_or (Some None) = 0
+group_or (Some (Some g)) = g
+
+abbrev pub starts_of : {R : Type 0} → Option (Op R) → ℕ
+starts_of None = 0
+starts_of (Some o) = o.starts
+
+-- the rank of the operation at a place
+abbrev pub rank_of : {R : Type 0} → List Span → Option (Option ℕ) → ℕ → Option (Op R) → ℕ → Rank
+rank_of spans cut g o place = record {
+  late = late_in cut g (slice_get spans g);
+  first = first_in g (slice_get spans g);
+  last = last_in g (slice_get spans g);
+  group = g;
+  answers = not (is_write_at o);
+  starts = starts_of o;
+  place = place;
+}
+
+abbrev pub rank_in : {R : Type 0} → List (Op R) → List (Option ℕ) → List Span → Option (Option ℕ) → ℕ → Rank
+rank_in ops groups spans cut place = rank_of spans cut (group_or (slice_get groups place)) (slice_get ops place) place
+
+abbrev pub ranks_in : {R : Type 0} → List (Op R) → List (Option ℕ) → List Span → Option (Option ℕ) → List ℕ → List Rank
+ranks_in ops groups spans cut places = map (rank_in ops groups spans cut) places
 
 -- x stands no later than y
 pub record IsNoLater (x y : Rank) : Type 0 where

@@ -1,6 +1,6 @@
 -- What is kept of each record, while a log is read. Only callers' invariants and private functions cite this, which is
 -- this project's own; what is kept at the end stands in Thinnings.
-use Rattle.std.specs.Prelude.{◌≡◌, ℕ, ◌≤◌, true, List, slice_get, Option, None, Some, IsSome}
+use Rattle.std.specs.Prelude.{◌≡◌, ℕ, ◌<◌, ◌≤◌, ◌⊎◌, true, List, length, map, slice_get, Option, None, Some, IsSome}
 use Rattle.std.specs.Prelude.{IsSomeAnd, nat_lt, if◌then◌else◌}
 use Rattle.history_core.specs.declared.history.Op.{Op}
 use Rattle.history_core.specs.declared.history.Kind.{Kind}
@@ -8,10 +8,18 @@ use Rattle.history_core.specs.declared.history.Kind.TheVariants.{Write, Read, Re
 use Rattle.history_core.specs.Orders.{is_write}
 use Rattle.history_core.specs.Reasons.{counts}
 use Rattle.history_core.specs.Searches.{AreForwards, WritesOnce}
-use Rattle.history_thinning.specs.declared.group.Group.{Group}
 use Rattle.history_thinning.specs.declared.group.Placed.{Placed}
+use Rattle.history_thinning.specs.declared.group.Roles.{Roles}
 use Rattle.history_thinning.specs.declared.thinner.Thinner.{Thinner}
 use Rattle.history_thinning.specs.Thinnings.{Equal}
+
+-- the operations that are kept of one record: its write, the first to end of those that are finished, the last to begin
+-- of those that are finished or the write, and a finished refused write
+pub record Group : Type 0 where
+  pub write : Option Placed
+  pub first : Option Placed
+  pub last : Option Placed
+  pub refused : Option Placed
 
 abbrev pub latest_write : Option Placed → Placed → Kind → Option Placed
 latest_write kept placed Write = Some placed
@@ -88,6 +96,57 @@ pub record AreKept (log : List (Op ℕ)) (groups : List Group) : Type 0 where
   pub forwards : (n : ℕ) → AreForwards log n
   pub once : (n : ℕ) → WritesOnce Equal 0 log n
 
+-- the index that stands for no operation: 2^32 - 1
+abbrev pub nowhere : ℕ
+nowhere = 4294967295
+
+abbrev pub placed_of : Option (Op ℕ) → Option ℕ → Option Placed
+placed_of None place = None
+placed_of (Some o) None = None
+placed_of (Some o) (Some place) = Some (record { op = o; place = place })
+
+-- the operation at an index, with its place in the log
+abbrev pub placed_at : List (Op ℕ) → List ℕ → ℕ → Option Placed
+placed_at ops places index = placed_of (slice_get ops index) (slice_get places index)
+
+-- the group of a record with these roles
+abbrev pub group_at : List (Op ℕ) → List ℕ → Roles → Group
+group_at ops places roles = record {
+  write = placed_at ops places roles.write;
+  first = placed_at ops places roles.first;
+  last = placed_at ops places roles.last;
+  refused = placed_at ops places roles.refused;
+}
+
+abbrev pub groups_at : List (Op ℕ) → List ℕ → List Roles → List Group
+groups_at ops places roles = map (group_at ops places) roles
+
+abbrev pub IsIndex : ℕ → ℕ → Type 0
+IsIndex n index = (index < n) ⊎ (index ≡ nowhere)
+
+-- each role is that of one of the first n operations, or of none
+pub record AreWithin (n : ℕ) (roles : Roles) : Type 0 where
+  pub write : IsIndex n roles.write
+  pub first : IsIndex n roles.first
+  pub last : IsIndex n roles.last
+  pub refused : IsIndex n roles.refused
+
+-- operations of a log, at rising places
+pub record AreRows (log : List (Op ℕ)) (ops : List (Op ℕ)) (places : List ℕ) : Type 0 where
+  pub long : length places ≡ length ops
+  pub few : length ops ≤ nowhere
+  pub are : (i p : ℕ) (o : Op ℕ) → slice_get places i ≡ Some p → slice_get ops i ≡ Some o → slice_get log p ≡ Some o
+  pub rise : (i j p q : ℕ) → i < j → slice_get places i ≡ Some p → slice_get places j ≡ Some q → p < q
+
+-- operations of a log, and which of them are kept of each record
+pub record AreThinned (log ops : List (Op ℕ)) (places : List ℕ) (roles : List Roles) : Type 0 where
+  pub rows : AreRows log ops places
+  pub within : (number : ℕ) (own : Roles) → slice_get roles number ≡ Some own → AreWithin (length ops) own
+  pub kept : AreKept log (groups_at ops places roles)
+
+abbrev pub HasRoles : List (Op ℕ) → List (Op ℕ) → List ℕ → Type 0
+HasRoles log ops places = (roles : List Roles) × AreThinned log ops places roles
+
 -- a log has been entered
 abbrev pub IsThinning : List (Op ℕ) → Thinner → Type 0
-IsThinning log thinner = AreKept log thinner.groups.items
+IsThinning log thinner = AreThinned log thinner.rows.ops.items thinner.rows.places.items thinner.roles.items

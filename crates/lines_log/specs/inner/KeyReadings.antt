@@ -4,15 +4,15 @@ use Rattle.std.specs.Prelude.{Option, None, Some, Ok, option_map, string_bytes}
 use Rattle.history_core.specs.declared.history.Op.{Op}
 use Rattle.program_runs.specs.declared.fault.Fault.{Fault}
 use Rattle.program_runs.specs.declared.fault.Fault.TheVariants.{NoMemory}
-use Rattle.read_document.specs.Splits.{lines_of}
+use Rattle.text_lines.specs.Splits.{lines_of}
 use Rattle.read_line.specs.Lines.{Head, head_seen}
-use Rattle.read_line.specs.Numberings.{IsNumbering}
+use Rattle.kept_lines.specs.Numberings.{IsNumbering}
 use Rattle.lines_log.specs.KeyFaults.{IsFaultInKey}
 use Rattle.lines_log.specs.Keys.{is_met, is_of, keys_in, lines_of_key, places_of_key, rule_for}
 use Rattle.lines_log.specs.Logs.{AreAll, first_key, judged_line, rule_in}
 use Rattle.lines_log.specs.inner.Readings.{AreRead, IsFinished, rule_of}
 use Rattle.lines_log.specs.declared.key_reader.KeyReader.{KeyReader}
-use Rattle.lines_log.specs.declared.keys_log.KeyLog.{KeyLog}
+use Rattle.kept_lines.specs.declared.keys_log.KeyLog.{KeyLog}
 use Rattle.lines_log.specs.declared.keys_reader.KeysReader.{KeysReader}
 
 -- the name by which a key is looked up

@@ -1,8 +1,8 @@
 -- Records and operations that got numbers. Only private functions cite this, which is this project's own.
 use Rattle.std.specs.Prelude.{◌≡◌, ℕ, List, slice_get, Option, Some}
 use Rattle.history_core.specs.declared.history.Op.{Op}
-use Rattle.read_line.specs.Numberings.{IsNumbering}
-use Rattle.read_line.specs.declared.numbering.Numbering.{Numbering}
+use Rattle.record_numbers.specs.Numbered.{AreNumbered}
+use Rattle.record_numbers.specs.declared.numbers.RecordNumbers.{RecordNumbers}
 use Rattle.lines_log.specs.Logs.{IsItem, IsNumberedOp}
 
 -- the records that were met stay where they stand
@@ -10,17 +10,17 @@ abbrev pub Grow : List (List ℕ) → List (List ℕ) → Type 0
 Grow records after = (n : ℕ) (text : List ℕ) → slice_get records n ≡ Some text → slice_get after n ≡ Some text
 
 -- a record got its number, where there is one
-pub record IsRecordNow (records : List (List ℕ)) (said : Option (List ℕ)) (numbering : Numbering)
+pub record IsRecordNow (records : List (List ℕ)) (said : Option (List ℕ)) (numbers : RecordNumbers)
     (item : Option ℕ) : Type 0 where
   pub after : List (List ℕ)
   pub grows : Grow records after
-  pub numbers : IsNumbering after numbering
+  pub numbered : AreNumbered after numbers
   pub is : IsItem after said item
 
 -- an operation got the number of its record
-pub record IsNumberedNow (records : List (List ℕ)) (said : Op (List ℕ)) (numbering : Numbering)
+pub record IsNumberedNow (records : List (List ℕ)) (said : Op (List ℕ)) (numbers : RecordNumbers)
     (op : Op ℕ) : Type 0 where
   pub after : List (List ℕ)
   pub grows : Grow records after
-  pub numbers : IsNumbering after numbering
+  pub numbered : AreNumbered after numbers
   pub is : IsNumberedOp after said op

@@ -2,10 +2,10 @@
 use Rattle.std.specs.Prelude.{◌≡◌, ℕ, List, [], ◌∷◌, ◌++◌, ◌⊎◌, length, Bool, true, false}
 use Rattle.std.specs.Prelude.{slice_get, None, Some, Ok, option_map}
 use Rattle.std.specs.Prelude.{string_bytes}
-use Rattle.read_line.specs.Numberings.{IsNumbering}
-use Rattle.read_line.specs.Reads.{WereRead, KnowsReads}
-use Rattle.read_document.specs.Splits.{lines_of}
-use Rattle.read_line.specs.Tasks.{KnowsTasks}
+use Rattle.record_numbers.specs.Numbered.{AreNumbered}
+use Rattle.kept_lines.specs.Reads.{WereRead, KnowsReads}
+use Rattle.text_lines.specs.Splits.{lines_of}
+use Rattle.kept_lines.specs.Tasks.{KnowsTasks}
 use Rattle.lines_log.specs.Logs.{AreAll, AreLines, judged_line, LineRule, unfinished_in}
 use Rattle.history_core.specs.declared.history.Op.{Op}
 use Rattle.history_core.specs.declared.reason.SearchError.{SearchError}
@@ -15,7 +15,7 @@ use Rattle.history_thinning.specs.inner.Kept.{IsThinning}
 use Rattle.program_runs.specs.declared.fault.Fault.{Fault}
 use Rattle.program_runs.specs.declared.fault.Fault.TheVariants.{NoMemory}
 use Rattle.lines_log.specs.Faults.{told_of}
-use Rattle.lines_log.specs.declared.lines_log.LinesLog.{LinesLog}
+use Rattle.kept_lines.specs.declared.lines_log.LinesLog.{LinesLog}
 use Rattle.lines_log.specs.declared.reader.Reader.{Reader}
 
 -- what the lines are judged by
@@ -27,7 +27,7 @@ pub record AreRead (opening : List ℕ) (lines : List (List ℕ)) (reader : Read
   pub records : List (List ℕ)
   pub log : List (Op ℕ)
   pub are : AreLines (rule_of reader) lines records log
-  pub numbering : IsNumbering records reader.numbering
+  pub numbered : AreNumbered records reader.numbers
   pub opened : slice_get records 0 ≡ Some opening
   pub tasks : KnowsTasks log reader.turns
   pub kept : IsThinning log reader.thinner
@@ -73,6 +73,6 @@ pub record IsFinished (limit : ℕ) (has_end : Bool) (reader : Reader) (log : Li
   pub thinned : (ops : List (Op ℕ)) → IsThinning ops reader.thinner → IsThinnedLog limit ops log.thinned
   pub ops : log.ops ≡ reader.count
   pub unfinished : log.unfinished ≡ reader.unfinished
-  pub count : (records : List (List ℕ)) → IsNumbering records reader.numbering → log.records ≡ length records
+  pub count : (records : List (List ℕ)) → AreNumbered records reader.numbers → log.records ≡ length records
   pub given : (ops : List (Op ℕ)) → KnowsReads ops reader.reads → WereRead ops log.read
   pub ended : log.ended ≡ has_end

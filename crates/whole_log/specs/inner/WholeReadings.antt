@@ -3,9 +3,9 @@ use Rattle.std.specs.Prelude.{◌≡◌, ℕ, List, [], ◌∷◌, ◌++◌, len
 use Rattle.std.specs.Prelude.{option_map, string_bytes}
 use Rattle.lines_log.specs.Logs.{AreAll, AreLines, judged_line, LineRule, unfinished_in}
 use Rattle.lines_log.specs.inner.Readings.{HasRest}
-use Rattle.read_line.specs.Numberings.{IsNumbering}
-use Rattle.read_line.specs.Reads.{KnowsReads, WereRead}
-use Rattle.read_line.specs.Tasks.{KnowsTasks}
+use Rattle.record_numbers.specs.Numbered.{AreNumbered}
+use Rattle.kept_lines.specs.Reads.{KnowsReads, WereRead}
+use Rattle.kept_lines.specs.Tasks.{KnowsTasks}
 use Rattle.whole_log.specs.declared.reader.Reader.{Reader}
 use Rattle.whole_log.specs.declared.whole_log.WholeLog.{WholeLog}
 
@@ -17,7 +17,7 @@ whole_rule reader = record { limited = reader.limited; key = option_map string_b
 pub record AreWholeRead (opening : List ℕ) (lines : List (List ℕ)) (reader : Reader) : Type 0 where
   pub records : List (List ℕ)
   pub are : AreLines (whole_rule reader) lines records reader.ops.items
-  pub numbering : IsNumbering records reader.numbering
+  pub numbered : AreNumbered records reader.numbers
   pub opened : slice_get records 0 ≡ Some opening
   pub tasks : KnowsTasks reader.ops.items reader.turns
   pub reads : KnowsReads reader.ops.items reader.reads
@@ -50,6 +50,6 @@ pub record IsWholeBody (opening : List ℕ) (body : List (List ℕ)) (reader : R
 pub record IsWholeGiven (has_end : Bool) (reader : Reader) (log : WholeLog) : Type 0 where
   pub ops : log.ops ≡ reader.ops
   pub unfinished : log.unfinished ≡ unfinished_in reader.ops.items
-  pub count : (records : List (List ℕ)) → IsNumbering records reader.numbering → log.records ≡ length records
+  pub count : (records : List (List ℕ)) → AreNumbered records reader.numbers → log.records ≡ length records
   pub given : KnowsReads reader.ops.items reader.reads → WereRead reader.ops.items log.read
   pub ended : log.ended ≡ has_end

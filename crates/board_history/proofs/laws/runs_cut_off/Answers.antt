@@ -1,5 +1,6 @@
 -- All are computed place by place.
-use Rattle.board_history.proofs.cut_off.Instances.{cell_worked, column_worked, no_cut_read, no_stale, not_without_write, row_worked}
+use Rattle.board_history.proofs.cut_off.Instances.{cell_worked, column_worked, no_cut_read, no_kept, no_stale, not_without_write}
+use Rattle.board_history.proofs.cut_off.Instances.{row_worked}
 use Rattle.board_history.proofs.laws.runs_cut_off.Goals as goal
 
 pub returns-clause-column : goal.returns-clause-column
@@ -19,3 +20,6 @@ returns-clause-write c = not_without_write
 
 pub returns-clause-stale : goal.returns-clause-stale
 returns-clause-stale c = no_stale
+
+pub returns-clause-kept : goal.returns-clause-kept
+returns-clause-kept c = no_kept

@@ -1,7 +1,7 @@
 -- The row of the family is the board's, by its numbers.
 use Rattle.std.proofs.Common.{◌-◌, ◌<◌, ◌∙◌, sym, subst, rules}
 use Rattle.board_live.specs.inner.Calls.{HasWrittenRow}
-use Rattle.board_live.proofs.Accessing.{row_written, stands_there}
+use Rattle.board_live.proofs.Accessing.{row_written}
 use Rattle.board_live.proofs.calls.row.Goals as goal
 
 pub returns-clause-row : goal.returns-clause-row
@@ -23,8 +23,7 @@ write_all_from-requires-clause-lawful g c = search rules
 
 pub write_all_from-requires-clause-rises : goal.write_all_from-requires-clause-rises
 write_all_from-requires-clause-rises g c = λ j inside ne.
-    stands_there g.F.Family c.args.family.now j c.args.seat.now c.args.first.now c.args.own.now c.args.item.now c.requires.opens
-    (c.requires.last j (subst (λ z. j < z) c.requires.of.all inside) (λ e. ne (e ∙ sym c.requires.of.who))) c.requires.rises
+    c.requires.rises j (subst (λ z. j < z) c.requires.of.all inside) (λ e. ne (e ∙ sym c.requires.of.who))
 
 pub write_all_from-requires-clause-plan : goal.write_all_from-requires-clause-plan
 write_all_from-requires-clause-plan g c = c.requires.plan

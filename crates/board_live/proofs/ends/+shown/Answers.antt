@@ -1,6 +1,6 @@
 -- The seats stay the same list in their order, however many are taken out.
 use Rattle.std.proofs.Common.{arith, ◌≡◌, ◌+◌, ◌∷◌, [], length, length-append, ap, ◌∙◌, sym, subst}
-use Rattle.cell_contract.specs.Ends.{Each, EachTwo, IsAtomicCell}
+use Rattle.cell_contract.specs.Ends.{Each, EachTwo, FindWhatWasSaid, IsAtomicCell}
 use Rattle.board_live.specs.inner.Room.{in_order}
 use Rattle.board_live.proofs.Mapping.{order_none, order_more}
 use Rattle.board_live.proofs.ends.+shown.Goals as goal
@@ -21,6 +21,21 @@ returns-in_default-clause-atomic g t c =
     subst (λ xs. EachTwo (λ i j s t. IsAtomicCell (g.F.Family.opening c.args.family.now) (g.F.Family.writes s j)
     (g.F.Family.reads t i)) xs) is
     c.so_far.ensures.atomic
+
+pub returns-in_default-clause-finds : goal.returns-in_default-clause-finds
+returns-in_default-clause-finds g t c =
+    let none : length c.args.passes.now.items ≡ 0 = let e = c.in_default.ensures.cases in omega (arith, e.0) in
+    let is = c.reverse.ensures.items ∙ sym (order_none c.args.passes.now.items c.args.seats.now.items none) in
+    subst (λ xs. FindWhatWasSaid g.F.Family.said g.F.Family.found xs) is c.so_far.ensures.finds
+
+pub returns-clause-finds : goal.returns-clause-finds
+returns-clause-finds g t c =
+    let passes = c.args.passes.now.items in
+    let seats = c.args.seats.now.items in
+    let left = c.pop.new.self.items in
+    let is : in_order left c.push_reserved.new.self.items ≡ in_order passes seats =
+    ap (λ z. in_order left z) c.push_reserved.ensures.items ∙ order_more passes left seats c.in-Some.pass c.in-Some.ensures.items in
+    subst (λ xs. FindWhatWasSaid g.F.Family.said g.F.Family.found xs) is c.shown.ensures.finds
 
 pub shown-requires : goal.shown-requires
 shown-requires g t c κs within =

@@ -14,7 +14,7 @@ finish-last-requires g c =
     c.push_reserved-2.new.self.items w r c.in_ok-passes.ensures.items c.push_reserved.ensures.items c.push_reserved-2.ensures.items in
     subst (λ ps. AllPasses g.F.Family g.V.RecordLaw.obeys c.args.board ps) (sym passes)
     (two_passes g.F.Family c.args.board g.V.RecordLaw.obeys w r c.requires.two c.tell-receipt.ensures.pass
-    (c.tell-receipt.ensures.same.process ∙ c.in-Ok.ensures.call.1.process ∙ c.requires.writer.who) c.read-seen.ensures.pass
+    (c.tell-receipt.ensures.process ∙ c.in-Ok.ensures.call.1.process ∙ c.requires.writer.who) c.read-seen.ensures.pass
     (c.read-seen.ensures.call.process ∙ c.learn.ensures.same.process ∙ c.requires.reader.who))
 
 pub returns : goal.returns
@@ -29,7 +29,7 @@ returns g c =
     let chose = c.in-Ok.ensures.call.2 in
     let read = c.read-seen.ensures.call in
     let wrote : clock c.write.new.pass.seat ≡ write.end = write.interval.2 in
-    let told = c.tell-receipt.ensures.told.time in
+    let told = c.tell-receipt.ensures.later in
     let heard = c.learn.ensures.learnt.time in
     let begins = read.interval.0 in
     crossed g.F.Family c.args.board w r c.args.item c.finish-last.result
@@ -40,6 +40,7 @@ returns g c =
       seen = stamped c.in-Ok.ensures.call.0;
       chosen = stamped c.write.new.pass.own;
       tells = write.tells;
+      finds = write.finds;
     })
     (record {
       begin = read.begin;
@@ -48,7 +49,8 @@ returns g c =
       seen = stamped c.read-seen.result;
       chosen = stamped r.own;
       tells = read.tells;
+      finds = read.finds;
     }) atomic
-    (c.tell-receipt.ensures.same.made _ (write.made [] c.requires.writer.none))
+    ((c.tell-receipt.ensures.same c.in-Ok.ensures.told).made _ (write.made [] c.requires.writer.none))
     (read.made [] (c.learn.ensures.same.made [] c.requires.reader.none)) refl refl (ap (λ z. z.item) chose.2)
     (omega (arith, wrote, told, heard, begins))

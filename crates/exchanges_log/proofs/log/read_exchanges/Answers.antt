@@ -1,6 +1,6 @@
 -- The header and the body were read.
 use Rattle.std.proofs.Common.{◌∙◌, string_bytes}
-use Rattle.read_document.specs.Splits.{lines_of}
+use Rattle.text_lines.specs.Splits.{lines_of}
 use Rattle.read_line.specs.Lines.{head_seen}
 use Rattle.exchanges_log.specs.inner.ExchangeReadings.{rule_of}
 use Rattle.exchanges_log.proofs.WholeLemmas.{assembled, header_fault, later_fault, same_rule}

@@ -1,7 +1,7 @@
 -- The lines so far, and those that are left.
 use Rattle.std.proofs.Common.{◌≡◌, ◌++◌, length, map}
 use Rattle.print_reasons.specs.Text.{body_of}
-use Rattle.read_document.specs.Splits.{lines_of}
+use Rattle.text_lines.specs.Splits.{lines_of}
 use Rattle.fsr_coherent_answers.proofs.lines.body_lines.Given as goal
 
 abbrev pub invariant-lines : goal.invariant-lines

@@ -2,7 +2,7 @@
 use Rattle.std.proofs.Common.{◌≡◌, ◌∙◌, ap, arith, length, refl, slice_get, subst, sym, ℕ, List, Some, ◌+◌}
 use Rattle.std.proofs.lemmas.Option.{slice_get_read}
 use Rattle.history_core.specs.declared.thinned.LogAnswer.{LogAnswer}
-use Rattle.lines_log.specs.declared.keys_log.KeyLog.{KeyLog}
+use Rattle.kept_lines.specs.declared.keys_log.KeyLog.{KeyLog}
 use Rattle.fsr_once_answers.specs.KeysAnswers.{HaveOrders}
 use Rattle.fsr_once_answers.proofs.KeysLemmas.{first_unlawful, lawful_else, orders_more}
 use Rattle.fsr_once_answers.proofs.keys_verdict.judge_keys.Goals as goal

@@ -1,6 +1,6 @@
 -- A line more was watched, or it stops.
 use Rattle.std.proofs.Common.{◌++◌, ℕ, List, subst}
-use Rattle.read_document.specs.Splits.{lines_of}
+use Rattle.text_lines.specs.Splits.{lines_of}
 use Rattle.watch_lines.specs.Replies.{StopAt, TellsIf}
 use Rattle.fsr_watch_answers.proofs.ReplyLemmas.{one_stops, one_watched}
 use Rattle.fsr_watch_answers.proofs.lines.watch_whole.Goals as goal

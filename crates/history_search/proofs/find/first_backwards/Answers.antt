@@ -1,5 +1,5 @@
 -- What was met runs forwards, and then all does.
-use Rattle.std.proofs.Common.{◌≡◌, ◌<◌, ℕ, length, Some, slice_get, refl, sym, subst, false, true, Option, rules}
+use Rattle.std.proofs.Common.{◌≡◌, ℕ, length, Some, slice_get, refl, false, true, rules}
 use Rattle.std.proofs.lemmas.Option.{slice_get_read}
 use Rattle.history_search.proofs.Loops.{forwards_all, forwards_more}
 use Rattle.history_search.proofs.find.first_backwards.Goals as goal

@@ -1,37 +1,41 @@
 -- The group of the opening is the first.
-use Rattle.std.proofs.Common.{◌≡◌, ◌<◌, ℕ, length, get_or, arith, refl, rules}
-use Rattle.std.proofs.lemmas.Option.{slice_get-get_or}
-use Rattle.history_search.specs.inner.Groups.{empty_span}
+use Rattle.std.proofs.Common.{◌<◌, length, get_or, arith, refl, sym, ap, ◌∙◌, rules}
+use Rattle.history_search.specs.declared.span.Span.{Span}
+use Rattle.history_search.specs.inner.Groups.{span_in, spans_in}
 use Rattle.history_search.proofs.Loops.{stale_none, stale_past}
+use Rattle.history_search.proofs.Marked.{no_marks, span_there}
 use Rattle.history_search.proofs.span.first_stale.Goals as goal
 
 pub returns-in-None-clause-some : goal.returns-in-None-clause-some
-returns-in-None-clause-some c = search rules
+returns-in-None-clause-some g c = search rules
 
 pub returns-in-None-clause-none : goal.returns-in-None-clause-none
-returns-in-None-clause-none c =
+returns-in-None-clause-none g c =
     let l : 0 < length c.args.spans.now = let r = c.requires in omega arith in
-    stale_none c.args.spans.now (get_or c.args.spans.now 0 empty_span) (slice_get-get_or c.args.spans.now 0 empty_span l) c.in-None.is
+    stale_none (spans_in c.args.ops.now c.args.spans.now) (span_in c.args.ops.now (get_or c.args.spans.now 0 no_marks))
+    (span_there c.args.ops.now c.args.spans.now 0 no_marks l)
+    (ap (λ (z : Span). z.begins) (sym c.span_in-opened.ensures) ∙ c.in-None.is)
 
 pub returns-in-None-first_before-clause-some : goal.returns-in-None-first_before-clause-some
-returns-in-None-first_before-clause-some c = search rules
+returns-in-None-first_before-clause-some g c = search rules
 
 pub returns-in-None-first_before-clause-none : goal.returns-in-None-first_before-clause-none
-returns-in-None-first_before-clause-none c =
+returns-in-None-first_before-clause-none g c =
     let l : 0 < length c.args.spans.now = let r = c.requires in omega arith in
-    stale_past c.args.spans.now (get_or c.args.spans.now 0 empty_span) c.in-Some.m (slice_get-get_or c.args.spans.now 0 empty_span l)
-    c.in-Some.is c.in-None-first_before.ensures.none
+    stale_past (spans_in c.args.ops.now c.args.spans.now) (span_in c.args.ops.now (get_or c.args.spans.now 0 no_marks)) c.in-Some.m
+    (span_there c.args.ops.now c.args.spans.now 0 no_marks l)
+    (ap (λ (z : Span). z.begins) (sym c.span_in-opened.ensures) ∙ c.in-Some.is) c.in-None-first_before.ensures.none
 
 pub returns-in-Some-first_before-clause-some : goal.returns-in-Some-first_before-clause-some
-returns-in-Some-first_before-clause-some c =
+returns-in-Some-first_before-clause-some g c =
     let l : 0 < length c.args.spans.now = let r = c.requires in omega arith in (
-      get_or c.args.spans.now 0 empty_span,
+      span_in c.args.ops.now (get_or c.args.spans.now 0 no_marks),
       c.in-Some.m,
-      slice_get-get_or c.args.spans.now 0 empty_span l,
-      c.in-Some.is,
+      span_there c.args.ops.now c.args.spans.now 0 no_marks l,
+      ap (λ (z : Span). z.begins) (sym c.span_in-opened.ensures) ∙ c.in-Some.is,
       c.in-Some-first_before.ensures.some,
       refl,
     )
 
 pub returns-in-Some-first_before-clause-none : goal.returns-in-Some-first_before-clause-none
-returns-in-Some-first_before-clause-none c = search rules
+returns-in-Some-first_before-clause-none g c = search rules

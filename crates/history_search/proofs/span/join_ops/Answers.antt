@@ -2,10 +2,12 @@
 use Rattle.std.proofs.Common.{Option, ◌≡◌, ◌+◌, ◌<◌, ◌≤◌, ℕ, List, length, get_or, set, arith, None, Some, slice_get, refl, sym, subst, ap}
 use Rattle.std.proofs.Common.{◌∙◌}
 use Rattle.std.proofs.lemmas.Option.{slice_get-get_or, slice_get_read}
+use Rattle.history_search.specs.declared.span.Marks.{Marks}
 use Rattle.history_search.specs.declared.span.Span.{Span}
-use Rattle.history_search.specs.inner.Groups.{AreSpans, empty_span}
+use Rattle.history_search.specs.inner.Groups.{AreSpans, span_in, spans_in}
 use Rattle.history_search.proofs.Assembled.{none_of}
 use Rattle.history_search.proofs.Loops.{spans_more, spans_skip}
+use Rattle.history_search.proofs.Marked.{no_marks, span_there, spans_long, spans_set}
 use Rattle.history_search.proofs.span.join_ops.Goals as goal
 use Rattle.history_search.proofs.span.join_ops.Goals.{in-Some, in_default}
 
@@ -30,13 +32,15 @@ pub offset_bounds-spans-group : goal.offset_bounds-spans-group
 offset_bounds-spans-group g c =
     let inside : c.in-Some.group < length c.loop-place.spans =
     spanned c.args.groups.now c.loop-place.place c.in-Some.group (length c.args.ops.now) (length c.loop-place.spans)
-    c.loop-place-test.true c.requires.long c.in-Some.is c.requires.within c.loop-place.invariant.long in
+    c.loop-place-test.true c.requires.long c.in-Some.is c.requires.within
+    (sym (spans_long c.args.ops.now c.loop-place.spans) ∙ c.loop-place.invariant.long) in
     omega (arith, inside)
 
 pub slice_copy_out-joined : goal.slice_copy_out-joined
 slice_copy_out-joined g c =
     spanned c.args.groups.now c.loop-place.place c.in-Some.group (length c.args.ops.now) (length c.loop-place.spans)
-    c.loop-place-test.true c.requires.long c.in-Some.is c.requires.within c.loop-place.invariant.long
+    c.loop-place-test.true c.requires.long c.in-Some.is c.requires.within
+    (sym (spans_long c.args.ops.now c.loop-place.spans) ∙ c.loop-place.invariant.long)
 
 pub bounds-ops-place : goal.bounds-ops-place
 bounds-ops-place g c = c.loop-place-test.true
@@ -45,13 +49,15 @@ pub offset_bounds-spans-group-in-Some : goal.offset_bounds-spans-group-in-Some
 offset_bounds-spans-group-in-Some g c =
     let inside : c.in-Some.group < length c.loop-place.spans =
     spanned c.args.groups.now c.loop-place.place c.in-Some.group (length c.args.ops.now) (length c.loop-place.spans)
-    c.loop-place-test.true c.requires.long c.in-Some.is c.requires.within c.loop-place.invariant.long in
+    c.loop-place-test.true c.requires.long c.in-Some.is c.requires.within
+    (sym (spans_long c.args.ops.now c.loop-place.spans) ∙ c.loop-place.invariant.long) in
     omega (arith, inside)
 
 pub bounds-spans-group : goal.bounds-spans-group
 bounds-spans-group g c =
     spanned c.args.groups.now c.loop-place.place c.in-Some.group (length c.args.ops.now) (length c.loop-place.spans)
-    c.loop-place-test.true c.requires.long c.in-Some.is c.requires.within c.loop-place.invariant.long
+    c.loop-place-test.true c.requires.long c.in-Some.is c.requires.within
+    (sym (spans_long c.args.ops.now c.loop-place.spans) ∙ c.loop-place.invariant.long)
 
 pub loop-place-preserved : goal.loop-place-preserved
 loop-place-preserved g c =
@@ -64,15 +70,22 @@ loop-place-preserved g c =
       | in-Some w ↦
           let group : ℕ = w.in-Some.group in
           let here : slice_get c.args.groups.now n ≡ Some (Some group) = at ∙ ap Some w.in-Some.is in
+          let long : length c.loop-place.spans ≡ length c.args.ops.now + 1 =
+          sym (spans_long c.args.ops.now c.loop-place.spans) ∙ c.loop-place.invariant.long in
           let ls : group < length c.loop-place.spans = let h = c.requires.within n group here in
-          omega (arith, c.loop-place.invariant.long) in
+          omega (arith, long) in
           let o = w.index-ops-place.result in
-          let span : Span = get_or c.loop-place.spans group empty_span in
-          let Q : Span → Type 0 = λ z. P (set c.loop-place.spans group z) in
-          subst P (sym w.spans-is) (subst Q (sym w.joined-span.ensures) (spans_more c.args.ops.now c.args.groups.now n group o span
-          c.loop-place.spans (slice_get_read c.args.ops.now (length c.args.ops.now) n o refl l w.index-ops-place.is, here)
-          (slice_get-get_or c.loop-place.spans group empty_span ls) c.loop-place.invariant))
-      | in_default w ↦ subst P (sym w.spans-is) (spans_skip c.args.ops.now c.args.groups.now n c.loop-place.spans
+          let at_o : slice_get c.args.ops.now n ≡ Some o =
+          slice_get_read c.args.ops.now (length c.args.ops.now) n o refl l w.index-ops-place.is in
+          let marks : Marks = get_or c.loop-place.spans group no_marks in
+          let Q : Marks → Type 0 = λ z. P (spans_in c.args.ops.now (set c.loop-place.spans group z)) in
+          subst (λ (z : List Marks). P (spans_in c.args.ops.now z)) (sym w.spans-is) (subst Q (sym w.joined-marks.ensures)
+          (subst P (sym (spans_set c.args.ops.now o n at_o c.loop-place.spans group no_marks))
+          (spans_more c.args.ops.now c.args.groups.now n group o (span_in c.args.ops.now marks)
+          (spans_in c.args.ops.now c.loop-place.spans) (at_o, here)
+          (span_there c.args.ops.now c.loop-place.spans group no_marks ls) c.loop-place.invariant)))
+      | in_default w ↦ subst (λ (z : List Marks). P (spans_in c.args.ops.now z)) (sym w.spans-is)
+          (spans_skip c.args.ops.now c.args.groups.now n (spans_in c.args.ops.now c.loop-place.spans)
           (at ∙ ap Some (none_of (get_or c.args.groups.now n None) w.in_default.not-Some)) c.loop-place.invariant)
     ]
 
@@ -80,5 +93,5 @@ pub returns : goal.returns
 returns g c =
     let done : length c.args.ops.now ≤ c.loop-place.place = c.loop-place-test.false in
     let same : c.loop-place.place ≡ length c.args.ops.now = let l = c.loop-place.auto.place-end in omega arith in
-    let P : ℕ → Type 0 = λ z. AreSpans c.args.ops.now c.args.groups.now z c.loop-place.spans in
+    let P : ℕ → Type 0 = λ z. AreSpans c.args.ops.now c.args.groups.now z (spans_in c.args.ops.now c.loop-place.spans) in
     subst P same c.loop-place.invariant

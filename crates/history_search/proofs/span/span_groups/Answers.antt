@@ -1,24 +1,27 @@
 -- The spans begin empty, and what the vector holds at the end is the slice that was joined.
-use Rattle.std.proofs.Common.{rules, ◌≡◌, ◌++◌, ◌∙◌, ℕ, List, length, take, arith, ap, subst, sym}
+use Rattle.std.proofs.Common.{rules, ◌≡◌, ◌++◌, ◌+◌, ◌∙◌, ℕ, List, length, take, arith, ap, subst, sym}
 use Rattle.std.proofs.lemmas.List.{take-append-le, take_all}
-use Rattle.history_search.specs.declared.span.Span.{Span}
-use Rattle.history_search.specs.inner.Groups.{AreSpans}
+use Rattle.history_search.specs.declared.span.Marks.{Marks}
+use Rattle.history_search.specs.inner.Groups.{AreSpans, spans_in}
 use Rattle.history_search.proofs.Loops.{spans_start}
+use Rattle.history_search.proofs.Marked.{spans_empty}
 use Rattle.history_search.proofs.span.span_groups.Goals as goal
 
 -- what a vector holds whose slice was changed as a whole
-whole : (n : ℕ) (old before new rest : List Span) → n ≡ length old → before ≡ old → length new ≡ length before → take n (new ++ rest) ≡ new
+whole : (n : ℕ) (old before new rest : List Marks) → n ≡ length old → before ≡ old → length new ≡ length before → take n (new ++ rest) ≡ new
 whole n old before new rest count same lengths =
     let long : n ≡ length new = count ∙ ap length (sym same) ∙ sym lengths in
     take-append-le n new rest (omega (arith, long)) ∙ take_all n new (omega (arith, long))
 
 pub join_ops-requires-clause-empty : goal.join_ops-requires-clause-empty
 join_ops-requires-clause-empty g c =
-    spans_start c.args.ops.now c.args.groups.now c.as_mut_slice.result.now (c.as_mut_slice.ensures.value ∙ c.in_ok-spans.ensures)
+    spans_start c.args.ops.now c.args.groups.now (spans_in c.args.ops.now c.as_mut_slice.result.now)
+    (ap (spans_in c.args.ops.now) (c.as_mut_slice.ensures.value ∙ c.in_ok-spans.ensures)
+    ∙ spans_empty c.args.ops.now (length c.args.ops.now + 1) c.if-ops.false)
 
 pub returns : goal.returns
 returns g c =
     let count : c.in_ok-spans.spans.len ≡ length c.in_ok-spans.spans.items = search rules in
-    let P : List Span → Type 0 = λ z. AreSpans c.args.ops.now c.args.groups.now (length c.args.ops.now) z in
+    let P : List Marks → Type 0 = λ z. AreSpans c.args.ops.now c.args.groups.now (length c.args.ops.now) (spans_in c.args.ops.now z) in
     subst P (sym (whole c.in_ok-spans.spans.len c.in_ok-spans.spans.items c.as_mut_slice.result.now c.join_ops.new.spans _ count
     c.as_mut_slice.ensures.value c.join_ops.auto.spans)) c.join_ops.ensures

@@ -1,6 +1,6 @@
 -- One key more is given.
 use Rattle.std.proofs.Common.{◌∷◌, [], ◌++◌, List, subst, sym}
-use Rattle.lines_log.specs.declared.keys_log.KeyLog.{KeyLog}
+use Rattle.kept_lines.specs.declared.keys_log.KeyLog.{KeyLog}
 use Rattle.lines_log.specs.inner.KeyReadings.{AreFinished}
 use Rattle.lines_log.proofs.KeyBodyLemmas.{finished_more}
 use Rattle.lines_log.proofs.keys.finish_all.Goals as goal

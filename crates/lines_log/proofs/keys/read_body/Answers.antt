@@ -1,6 +1,6 @@
 -- Each line is read behind those before it, up to the first at fault.
 use Rattle.std.proofs.Common.{Bool, arith, subst}
-use Rattle.read_document.specs.Splits.{lines_of}
+use Rattle.text_lines.specs.Splits.{lines_of}
 use Rattle.lines_log.specs.KeyFaults.{IsKeyedFault}
 use Rattle.lines_log.specs.Logs.{first_key}
 use Rattle.lines_log.specs.inner.KeyReadings.{ReadsKeyedLine}

@@ -3,7 +3,7 @@ use Rattle.std.proofs.Common.{◌+◌, ◌≤◌, [], length}
 use Rattle.read_line.specs.Lines.{Head}
 use Rattle.lines_log.specs.Logs.{first_key}
 use Rattle.lines_log.specs.inner.KeyReadings.{AreKeysRead, ArePartlyRead}
-use Rattle.read_document.specs.Splits.{lines_of}
+use Rattle.text_lines.specs.Splits.{lines_of}
 use Rattle.lines_log.proofs.keys.read_body.Given as goal
 
 abbrev pub invariant-lines : goal.invariant-lines

@@ -1,6 +1,6 @@
 -- Each line is read behind those before it, up to the first at fault.
 use Rattle.std.proofs.Common.{◌∙◌, Bool, arith, subst}
-use Rattle.read_document.specs.Splits.{lines_of}
+use Rattle.text_lines.specs.Splits.{lines_of}
 use Rattle.lines_log.specs.Faults.{IsLineFault}
 use Rattle.lines_log.specs.inner.Readings.{ReadsLine, rule_of}
 use Rattle.lines_log.proofs.BodyLemmas.{all_read, at_fault, none_found, one_more}

@@ -1,7 +1,7 @@
 -- The header and the body were read.
 use Rattle.std.proofs.Common.{◌∙◌, string_bytes}
 use Rattle.read_line.specs.Lines.{head_seen}
-use Rattle.read_document.specs.Splits.{lines_of}
+use Rattle.text_lines.specs.Splits.{lines_of}
 use Rattle.lines_log.specs.inner.Readings.{rule_of}
 use Rattle.lines_log.proofs.BodyLemmas.{assembled, same_rule}
 use Rattle.lines_log.proofs.FaultLemmas.{header_fault, later_fault}

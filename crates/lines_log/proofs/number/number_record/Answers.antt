@@ -2,8 +2,9 @@
 use Rattle.std.proofs.Common.{◌≡◌, ◌∙◌, inl, inr, ℕ, List, Option, Some, slice_get, subst, sym, ap}
 use Rattle.std.specs.Prelude.{option_map, string_bytes}
 use Rattle.history_core.proofs.Places.{get_stays}
-use Rattle.read_line.specs.Numberings.{GaveNumber, MeetsRecord}
-use Rattle.read_line.specs.declared.numbering.Numbering.{Numbering}
+use Rattle.kept_lines.specs.Numberings.{MeetsRecord}
+use Rattle.record_numbers.specs.Numbered.{GaveRecord}
+use Rattle.record_numbers.specs.declared.numbers.RecordNumbers.{RecordNumbers}
 use Rattle.lines_log.specs.inner.Numbers.{Grow, IsRecordNow}
 use Rattle.lines_log.proofs.number.number_record.Goals as goal
 
@@ -11,16 +12,17 @@ grows : (records after : List (List ℕ)) (text : List ℕ) → MeetsRecord reco
 grows records after text (inl same) n t at = ap (λ l. slice_get l n) same ∙ at
 grows records after text (inr more) n t at = ap (λ l. slice_get l n) more ∙ get_stays records t text n at
 
-numbered : (records : List (List ℕ)) (said : Option (List ℕ)) (text fitted : List ℕ) (n : ℕ) (numbering : Numbering)
-    → said ≡ Some text → fitted ≡ text → GaveNumber records fitted n numbering → IsRecordNow records said numbering (Some n)
-numbered records said text fitted n numbering is fit gave =
-    subst (λ z. IsRecordNow records z numbering (Some n)) (ap Some fit ∙ sym is) (record {
+numbered : (records : List (List ℕ)) (said : Option (List ℕ)) (text bytes : List ℕ) (n : ℕ) (numbers : RecordNumbers)
+    → said ≡ Some text → bytes ≡ text → GaveRecord records bytes n numbers → IsRecordNow records said numbers (Some n)
+numbered records said text bytes n numbers is same gave =
+    subst (λ z. IsRecordNow records z numbers (Some n)) (ap Some same ∙ sym is) (record {
       after = gave.after;
-      grows = grows records gave.after fitted gave.meets;
-      numbers = gave.numbers;
+      grows = grows records gave.after bytes gave.meets;
+      numbered = gave.numbered;
       is = gave.at;
     })
 
 pub returns-in_ok-number-in-Some : goal.returns-in_ok-number-in-Some
 returns-in_ok-number-in-Some c = λ records is.
-    numbered records _ _ _ _ _ (ap (option_map string_bytes) c.in-Some.is) c.fitted.ensures (c.in_ok-number-in-Some.ensures records is)
+    numbered records _ _ _ _ _ (ap (option_map string_bytes) c.in-Some.is) c.as_bytes.ensures.value
+    (c.in_ok-number-in-Some.ensures records is)

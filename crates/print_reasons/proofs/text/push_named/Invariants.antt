@@ -1,6 +1,6 @@
 -- What was printed so far stands before what the rest gives, and each line took a byte of the text at least.
 use Rattle.std.proofs.Common.{◌≡◌, ◌+◌, ◌≤◌, ◌++◌, length}
-use Rattle.read_document.specs.Splits.{lines_of}
+use Rattle.text_lines.specs.Splits.{lines_of}
 use Rattle.print_reasons.specs.Text.{named_text}
 use Rattle.print_reasons.proofs.text.push_named.Given as goal
 

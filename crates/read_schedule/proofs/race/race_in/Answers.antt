@@ -1,7 +1,7 @@
 -- The race can be run, as its limit, scripts and opening passed their ranges and laws.
 use Rattle.std.proofs.Common.{rules, ◌≡◌, ◌∙◌, ap, sym, subst, true}
 use Rattle.history_core.specs.Band.{fits}
-use Rattle.read_document.specs.Ranges.{limit_in_range}
+use Rattle.history_fields.specs.Fields.{limit_in_range}
 use Rattle.read_schedule.specs.Plans.{plans_fit, plans_in_range}
 use Rattle.read_schedule.specs.Players.{CanRace}
 use Rattle.read_schedule.specs.Race.{race_in}

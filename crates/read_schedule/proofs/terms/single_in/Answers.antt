@@ -2,7 +2,7 @@
 use Rattle.std.proofs.Common.{◌≡◌, ◌∙◌, ap, length, sym, subst, true}
 use Rattle.matrix_core.specs.Runs.{CanPlay}
 use Rattle.read_schedule.specs.Plans.{are_of, plans_in_range}
-use Rattle.read_document.specs.Ranges.{limit_in_range}
+use Rattle.history_fields.specs.Fields.{limit_in_range}
 use Rattle.read_schedule.proofs.Accepted.{must_holds, single_can_play}
 use Rattle.read_schedule.proofs.terms.single_in.Goals as goal
 

@@ -32,7 +32,7 @@ returns g c =
     let wrote = h.records.0 in
     let answer = h.records.1 in
     elim (three_end g.F.Family board q p r c.finish.result h.write h.read c.requires.three atomic h.wrote
-    (c.in-Some.ensures.silent [] c.requires.p.none) h.looked h.later) [
+    (c.in-Some.ensures.silent c.requires.p.told [] c.requires.p.none) h.looked h.later) [
       | inl below ↦ inl (subst (λ a. IsBelow a c.in-Some.answer.stamp) (ap (λ z. z.stamp) wrote)
           (subst (λ a. IsBelow h.write.chosen.stamp a) (ap (λ z. z.stamp) answer) below))
       | inr same ↦

@@ -14,7 +14,7 @@ finish-requires g c =
     (c.in_ok-push.ensures.items ∙ ap (λ z. z ++ w ∷ []) c.in_ok-passes.ensures.items) in
     subst (λ ps. AllPasses g.F.Family g.V.RecordLaw.obeys c.args.board ps) (sym passes)
     (two_passes g.F.Family c.args.board g.V.RecordLaw.obeys w r c.requires.two c.tell-receipt.ensures.pass
-    (c.tell-receipt.ensures.same.process ∙ c.in-Ok.ensures.call.1.process ∙ c.requires.writer.who) c.read-answer.ensures.pass
+    (c.tell-receipt.ensures.process ∙ c.in-Ok.ensures.call.1.process ∙ c.requires.writer.who) c.read-answer.ensures.pass
     (c.read-answer.ensures.call.process ∙ c.learn.ensures.same.process ∙ c.requires.reader.who))
 
 pub returns : goal.returns
@@ -29,7 +29,7 @@ returns g c =
     let chose = c.in-Ok.ensures.call.2 in
     let read = c.read-answer.ensures.call in
     let wrote : clock c.write.new.pass.seat ≡ write.end = write.interval.2 in
-    let told = c.tell-receipt.ensures.told.time in
+    let told = c.tell-receipt.ensures.later in
     let heard = c.learn.ensures.learnt.time in
     let begins = read.interval.0 in
     let tag : 0 < c.write.new.pass.own.stamp.tag =
@@ -42,6 +42,7 @@ returns g c =
       seen = stamped c.in-Ok.ensures.call.0;
       chosen = stamped c.write.new.pass.own;
       tells = write.tells;
+      finds = write.finds;
     })
     (record {
       begin = read.begin;
@@ -50,7 +51,8 @@ returns g c =
       seen = stamped c.read-answer.result;
       chosen = stamped r.own;
       tells = read.tells;
+      finds = read.finds;
     }) c.requires.two
-    atomic (c.tell-receipt.ensures.same.made _ (write.made [] c.requires.writer.none))
+    atomic ((c.tell-receipt.ensures.same c.in-Ok.ensures.told).made _ (write.made [] c.requires.writer.none))
     (read.made [] (c.learn.ensures.same.made [] c.requires.reader.none)) (omega (arith, wrote, told, heard, begins)) tag refl in
     sym (ap (λ z. z.item) c.read-answer.ensures.chosen) ∙ ap (λ z. z.item) same ∙ ap (λ z. z.item) chose.2

@@ -2,7 +2,6 @@
 use Rattle.std.proofs.Common.{Option, subst, sym}
 use Rattle.std.specs.Prelude.{IfSome}
 use Rattle.watch_lines.proofs.WatcherLemmas.{takes_behind}
-use Rattle.watch_lines.specs.WatchEntries.{watch_entry_of}
 use Rattle.watch_lines.specs.Watchers.{ForgetsAt}
 use Rattle.watch_lines.specs.declared.watcher.Watcher.{Watcher}
 use Rattle.watch_lines.proofs.watcher.watch_line.Goals as goal
@@ -13,5 +12,5 @@ returns-in-Some-clause-takes c = λ seen known.
 
 pub returns-in-Some-clause-forgets : goal.returns-in-Some-clause-forgets
 returns-in-Some-clause-forgets c =
-    let P : Option Watcher → Type 0 = λ r. IfSome r (λ old. ForgetsAt old (watch_entry_of c.args.bytes.now) c.step.result) in
+    let P : Option Watcher → Type 0 = λ r. IfSome r (λ old. ForgetsAt old c.step.result) in
     subst P (sym c.in-Some.is) c.step.ensures.forgets

@@ -1,6 +1,6 @@
 -- Each line is read behind those before it.
 use Rattle.std.proofs.Common.{◌∙◌, Bool, subst}
-use Rattle.read_document.specs.Splits.{lines_of}
+use Rattle.text_lines.specs.Splits.{lines_of}
 use Rattle.lines_log.proofs.BodyLemmas.{none_found}
 use Rattle.whole_log.specs.inner.WholeReadings.{ReadsWholeLine, whole_rule}
 use Rattle.whole_log.proofs.WholeBodies.{all_read, one_more}

@@ -1,6 +1,6 @@
 -- The header and the body were read.
 use Rattle.std.proofs.Common.{◌∙◌, string_bytes}
-use Rattle.read_document.specs.Splits.{lines_of}
+use Rattle.text_lines.specs.Splits.{lines_of}
 use Rattle.read_line.specs.Lines.{head_seen}
 use Rattle.lines_log.proofs.BodyLemmas.{same_rule}
 use Rattle.whole_log.proofs.WholeBodies.{assembled}

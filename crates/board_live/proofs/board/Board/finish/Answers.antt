@@ -16,6 +16,7 @@ finish-requires g c =
 pub returns-clause-atomic : goal.returns-clause-atomic
 returns-clause-atomic g c = all_atomic g.F.Family g.V.RecordLaw.obeys c.args.self c.args.passes.items c.requires c.seats_of.result.items
     c.seats_of.ensures c.greatest_own-last.result c.greatest_own-last.ensures c.finish.ensures.scheduled c.finish.ensures.atomic
+    c.finish.ensures.finds
 
 pub returns-clause-registers : goal.returns-clause-registers
 returns-clause-registers g c =

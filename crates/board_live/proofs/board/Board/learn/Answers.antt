@@ -3,13 +3,14 @@ use Rattle.std.proofs.Common.{refl, sym, ◌∙◌, ap, subst, ◌≡◌, rules}
 use Rattle.cell_contract.specs.declared.times.Known.{Known}
 use Rattle.cell_contract.specs.Accesses.{IsHeardRead, KeepsOthers}
 use Rattle.board_live.specs.declared.record.Posted.{Posted}
-use Rattle.board_live.proofs.Same.{after_learn, still}
+use Rattle.board_live.proofs.Same.{after_learn, still, still_kept}
 use Rattle.board_live.proofs.board.Board.learn.Goals as goal
 
 pub returns-clause-same : goal.returns-clause-same
 returns-clause-same g c = record {
   process = refl;
   own = refl;
+  told = refl;
   later = c.learn.ensures.later.0;
   writes = c.learn.ensures.others.0;
   made = λ calls h. record {
@@ -19,6 +20,8 @@ returns-clause-same g c = record {
         (g.F.Family.writes_of c.args.receipt.told (g.F.Family.who c.args.pass.now.seat)) c.learn.ensures.later.2 c.learn.ensures.others.0
         (λ ne. c.learn.ensures.heard (λ e. ne (e ∙ c.requires.pass.who))) c.learn.ensures.others.1 h.made;
     own = h.own;
+    word = still_kept g.F.Family c.args.self.now.processes c.args.self.now.limit c.args.pass.now.process c.args.self.now.first calls
+        c.args.pass.now.seat c.learn.new.seat c.learn.ensures.later.2 c.learn.ensures.tags h.word;
   };
 }
 

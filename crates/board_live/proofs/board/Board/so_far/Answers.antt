@@ -67,7 +67,7 @@ returns-clause-passes g c =
     let is : c.push_reserved-2.new.self.items ≡ left ++ again ∷ [] =
     c.push_reserved-2.ensures.items ∙ ap (λ z. z ++ again ∷ []) c.shown.ensures.passes.0 in
     subst (λ z. AllPasses g.F.Family g.V.RecordLaw.obeys c.args.self.now z) (sym is)
-    (all_again g.F.Family g.V.RecordLaw.obeys c.args.self.now passes left pass again c.requires c.in-Some.ensures.items refl refl
+    (all_again g.F.Family g.V.RecordLaw.obeys c.args.self.now passes left pass again c.requires c.in-Some.ensures.items refl refl refl
     (sym back.1)
     (c.in-Some-pop.ensures.capacity ∙ c.shown.ensures.seats.1 ∙ c.push_reserved.ensures.capacity) back.0)
 
@@ -95,4 +95,4 @@ returns-clause-atomic g c =
     ap (λ z. in_order left z) (c.push_reserved.ensures.items ∙ ap (λ z. z ++ pass.seat ∷ []) empty)
     ∙ order_more passes left [] pass c.in-Some.ensures.items ∙ append-nil (map (λ p. p.seat) passes) in
     all_atomic g.F.Family g.V.RecordLaw.obeys c.args.self.now passes c.requires (in_order left c.push_reserved.new.self.items) is
-    c.greatest_own-last.result c.greatest_own-last.ensures c.shown.ensures.scheduled c.shown.ensures.atomic
+    c.greatest_own-last.result c.greatest_own-last.ensures c.shown.ensures.scheduled c.shown.ensures.atomic c.shown.ensures.finds

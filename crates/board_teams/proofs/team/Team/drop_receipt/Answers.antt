@@ -14,4 +14,4 @@ returns g c =
     (used g.F.Family fits c.args.self.now.board c.args.self.now.passes.items _ c.args.from c.index_mut.result.now c.tell-receipt.new.pass
     c.args.self.now.passes.ok.0
     (omega (arith, c.if-from-len.false, c.len.ensures)) c.index_mut.ensures.value c.requires c.tell-receipt.ensures.pass
-    c.tell-receipt.ensures.same.process).0
+    c.tell-receipt.ensures.process).0

@@ -7,5 +7,7 @@ use Rattle.c_boards.proofs.place.seats.share.Goals as goal
 
 pub returns : goal.returns
 returns g c =
-    subst (λ b. IfOk c.seats.result (λ v. Pairs (λ p s. (s.pass.value ≡ p) × (arc_value s.board ≡ b)) c.args.passes.items v.items))
+    let place = g.D.HasPlace.place in
+    subst (λ b. IfOk c.seats.result
+    (λ v. Pairs (λ p d. ((place d).pass.value ≡ p) × (arc_value (place d).board ≡ b)) c.args.passes.items v.items))
     c.in_ok-board.ensures.ok c.seats.ensures

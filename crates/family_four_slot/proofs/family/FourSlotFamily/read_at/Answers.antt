@@ -84,6 +84,7 @@ returns-clause-read g c =
           (λ none. c.show_where.ensures.unshown (c.shows.ensures ∙ none))
           (λ unmoved. looked.again unmoved ∙ column_last f s own c.args.from other);
       others = h.others;
+      tags = h.tags;
     } where
       -- a record is shown, or it is the last answer again and need not be
       is_shown : {L T : Type 0} (sees : L → T → L → Type 0) (again moved : Bool) (old new : L) (answer last : T) →

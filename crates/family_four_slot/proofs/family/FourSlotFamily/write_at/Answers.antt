@@ -251,7 +251,7 @@ returns-clause-write g c =
     (held_slots s.seat.inner.me.1) c.set_bit.new.bits c.publish.new.shown
     s.seat.inner.me.1 (record s { seat = c.publish.new.seat; stored = kept }) t.5.0 u.5 u.6.0 refl u.6.1 u.6.2 same refl refl refl refl bits
     (c.publish.ensures.remembered ∙ pair) in
-    record { own = h.own; access = h.access; written = h.written; others = h.others }
+    record { own = h.own; access = h.access; written = h.written; others = h.others; tags = h.tags }
 
 pub returns-clause-so_far : goal.returns-clause-so_far
 returns-clause-so_far g c =

@@ -176,6 +176,7 @@ returns-clause-read g c =
           (λ none. c.show_where.ensures.unshown (c.shows.ensures ∙ none))
           (λ unmarked. looked.again unmarked ∙ column_last f s own c.args.from other cell at);
       others = h.others;
+      tags = h.tags;
     }
 
 pub returns-clause-so_far : goal.returns-clause-so_far

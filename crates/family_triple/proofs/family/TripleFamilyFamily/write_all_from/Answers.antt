@@ -3,7 +3,7 @@ use Rattle.std.proofs.Common.{◌≡◌, ◌+◌, ◌-◌, subst, arith}
 use Rattle.cell_contract.specs.Rows.{IsWriteTo}
 use Rattle.cell_contract.specs.Rows.OneByOne.{no_call}
 use Rattle.cell_contract.proofs.Rows.{one_after, one_before}
-use Rattle.family_table.specs.Seated.{number_of, clock_of, times_of}
+use Rattle.family_table.specs.Seated.{number_of, clock_of, times_of, said_of, found_of}
 use Rattle.family_triple.specs.Seated.{opening_of, processes_of, limit_of, writes_of, reads_of, IsSeat}
 use Rattle.family_triple.proofs.Rows.{Row, row_after, row_before, row_may_after, row_may_before, row_room, row_seat}
 use Rattle.family_triple.proofs.family.TripleFamilyFamily.write_all_from.Goals as goal
@@ -13,12 +13,14 @@ loop-to-init g c = (no_call, λ some. absurd (omega (arith, some)))
 
 pub loop-to-preserved : goal.loop-to-preserved
 loop-to-preserved g c = (
-  one_before (IsWriteTo (IsSeat c.args.self.now) number_of clock_of times_of writes_of reads_of 1 c.args.item.now) c.args.seat.now.who
+  one_before (IsWriteTo (IsSeat c.args.self.now) number_of clock_of times_of writes_of reads_of said_of found_of 1 c.args.item.now)
+      c.args.seat.now.who
       c.args.seat.now c.loop-to.seat c.write_from.new.seat c.loop-to.to c.loop-to.invariant.0 c.loop-to-test.true (record {
         own = c.write_from.ensures.own;
         access = c.write_from.ensures.access;
         written = c.write_from.ensures.written;
         others = c.write_from.ensures.others;
+        tags = c.write_from.ensures.tags;
       }),
   λ _. c.write_from.ensures.so_far,
 )
@@ -34,9 +36,16 @@ pub loop-to-2-preserved : goal.loop-to-2-preserved
 loop-to-2-preserved g c =
     let l = c.loop-to-2 in
     let call = c.write_from-in-loop-to-2 in (
-      one_after (IsWriteTo (IsSeat c.args.self.now) number_of clock_of times_of writes_of reads_of 1 c.args.item.now) c.args.seat.now.who
+      one_after (IsWriteTo (IsSeat c.args.self.now) number_of clock_of times_of writes_of reads_of said_of found_of 1 c.args.item.now)
+          c.args.seat.now.who
           c.args.seat.now l.seat call.new.seat l.to l.invariant.0 (omega (arith, l.auto.to))
-          (record { own = call.ensures.own; access = call.ensures.access; written = call.ensures.written; others = call.ensures.others }),
+          (record {
+            own = call.ensures.own;
+            access = call.ensures.access;
+            written = call.ensures.written;
+            others = call.ensures.others;
+            tags = call.ensures.tags;
+          }),
       λ _. call.ensures.so_far,
     )
 

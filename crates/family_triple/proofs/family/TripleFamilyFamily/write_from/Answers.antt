@@ -126,6 +126,7 @@ returns g c =
       access = h.access;
       written = h.written;
       others = h.others;
+      tags = h.tags;
       so_far = seat_so_far g.T.Planned.plan f _ h.own.0
           (c.publish-middle.ensures.shown _ (sym (ap (λ z. z.0) last) ∙ h.own.0.one));
     }

@@ -1,11 +1,14 @@
 -- The operation has its number and its turn and is kept, or overlaps another of its task, or is a write of a record that has one.
 use Rattle.std.proofs.Common.{◌<◌, arith, refl, inl, inr, sym, ◌∙◌, ap, length, subst}
 use Rattle.std.proofs.lemmas.Option.{slice_get_within}
-use Rattle.read_line.specs.Tasks.{IsTurnError, Overlap}
+use Rattle.kept_lines.specs.Tasks.{IsTurnError, Overlap}
 use Rattle.read_line.specs.Lines.{op_seen}
-use Rattle.read_line.specs.Places.{line_at}
+use Rattle.text_lines.specs.Places.{line_at}
 use Rattle.lines_log.proofs.ReadLemmas.{entered, overlapped, repeated}
 use Rattle.lines_log.proofs.reader.Reader.enter.Goals as goal
+
+pub number_op-requires : goal.number_op-requires
+number_op-requires c = (c.requires.known.2.records, c.requires.known.2.numbered)
 
 pub line_at-requires : goal.line_at-requires
 line_at-requires c =
@@ -24,7 +27,7 @@ returns-in-Ok-enter-2-clause-entered c = λ opening lines line last read judged.
 
 pub returns-in-Err-thin-clause-fault : goal.returns-in-Err-thin-clause-fault
 returns-in-Err-thin-clause-fault c = λ opening lines line last read judged.
-    repeated opening lines line last c.args.self.now c.number_op.new.numbering
+    repeated opening lines line last c.args.self.now c.number_op.new.numbers
     (op_seen c.args.op) c.in-Ok.next c.in-Err-thin.fault read judged
     c.in-Ok.ensures (c.in-Err-thin.ensures.fault read.log (sym read.count) read.kept)
 
@@ -37,7 +40,7 @@ returns-in-Err-Overlaps-clause-fault c = λ opening lines line last read judged.
       c.line_at.result,
       c.line_at-in-Err-Overlaps.result,
       refl,
-      overlapped opening lines line last c.args.self.now c.number_op.new.numbering
+      overlapped opening lines line last c.args.self.now c.number_op.new.numbers
           (op_seen c.args.op) c.in-Ok.next c.in-Err-Overlaps.first _ _
           read judged c.in-Ok.ensures overlap c.line_at.ensures (c.line_at-in-Err-Overlaps.ensures ∙ ap line_at read.count),
     )))

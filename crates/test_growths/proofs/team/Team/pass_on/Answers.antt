@@ -17,7 +17,7 @@ learn-requires-clause-pass g c =
     let told : AllPasses g.F.Family fits c.args.self.now.board ys × (vec_len c.args.self.now.passes ≡ length ys) =
     used g.F.Family fits c.args.self.now.board c.args.self.now.passes.items _ c.args.from c.index_mut.result.now c.tell-receipt.new.pass
     c.args.self.now.passes.ok.0 (omega (arith, c.if-from-len.false, c.len.ensures)) c.index_mut.ensures.value c.requires
-    c.tell-receipt.ensures.pass c.tell-receipt.ensures.same.process in
+    c.tell-receipt.ensures.pass c.tell-receipt.ensures.process in
     (stood g.F.Family fits c.args.self.now.board ys _ c.args.to c.index_mut-2.result.now told.1
     (omega (arith, c.if-to-len.false, c.len-2.ensures)) c.index_mut-2.ensures.value told.0).0
 
@@ -27,7 +27,7 @@ returns g c =
     let told : AllPasses g.F.Family fits c.args.self.now.board ys × (vec_len c.args.self.now.passes ≡ length ys) =
     used g.F.Family fits c.args.self.now.board c.args.self.now.passes.items _ c.args.from c.index_mut.result.now c.tell-receipt.new.pass
     c.args.self.now.passes.ok.0 (omega (arith, c.if-from-len.false, c.len.ensures)) c.index_mut.ensures.value c.requires
-    c.tell-receipt.ensures.pass c.tell-receipt.ensures.same.process in
+    c.tell-receipt.ensures.pass c.tell-receipt.ensures.process in
     (used g.F.Family fits c.args.self.now.board ys _ c.args.to c.index_mut-2.result.now c.learn.new.pass told.1
     (omega (arith, c.if-to-len.false, c.len-2.ensures)) c.index_mut-2.ensures.value told.0 c.learn.ensures.pass
     c.learn.ensures.same.process).0

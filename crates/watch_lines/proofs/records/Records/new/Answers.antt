@@ -1,7 +1,7 @@
 -- The opening alone is kept.
 use Rattle.std.proofs.Common.{ℕ, List, refl, string_bytes}
 use Rattle.std.proofs.lemmas.Map.Text.{btree_map_updates_text}
-use Rattle.read_line.proofs.NumberLemmas.{none_there}
+use Rattle.kept_lines.proofs.NumberLemmas.{none_there}
 use Rattle.watch_lines.specs.declared.records.Records.{Records}
 use Rattle.watch_lines.proofs.NumberLemmas.{alone}
 use Rattle.watch_lines.proofs.records.Records.new.Goals as goal

@@ -1,0 +1,4 @@
+pub mod Lasts
+pub mod Numberings
+pub mod Reads
+pub mod Tasks

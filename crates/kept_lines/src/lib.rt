@@ -1,0 +1,15 @@
+//! What the reader of a log in lines keeps: a number for each record, the records that were read, and the last
+//! operation of each task. And what is kept of the log in the end, of one key or of several.
+#![tactic(auto)]
+
+mod keys_log;
+mod lines_log;
+mod numbering;
+mod reads;
+mod turns;
+
+pub use keys_log::{KeyLog, KeysLog};
+pub use lines_log::LinesLog;
+pub use numbering::Numbering;
+pub use reads::Reads;
+pub use turns::{Last, TurnError, Turns};

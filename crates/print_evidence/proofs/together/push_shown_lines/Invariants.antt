@@ -1,0 +1,7 @@
+-- Each turn prints one line behind what was printed before.
+use Rattle.std.proofs.Common.{◌≡◌, ◌++◌, take}
+use Rattle.print_evidence.specs.Together.{shown_lines}
+use Rattle.print_evidence.proofs.together.push_shown_lines.Given as goal
+
+abbrev pub invariant-loop-place : goal.invariant-loop-place
+invariant-loop-place l = l.text.items ≡ l.initial.text.items ++ shown_lines l.bytes (take l.place-index l.places)

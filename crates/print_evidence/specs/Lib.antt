@@ -1,0 +1,4 @@
+pub mod Limited
+pub mod Lost
+pub mod Together
+pub mod Unsourced

@@ -1,0 +1,2 @@
+pub mod KeysText
+pub mod Text

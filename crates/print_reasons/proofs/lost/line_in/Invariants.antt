@@ -1,8 +1,0 @@
--- What is left are the lines from the place on.
-use Rattle.std.proofs.Common.{◌≡◌, drop}
-use Rattle.read_document.specs.Splits.{lines_of}
-use Rattle.print_reasons.specs.Text.{body_of}
-use Rattle.print_reasons.proofs.lost.line_in.Given as goal
-
-abbrev pub invariant-loop-behind : goal.invariant-loop-behind
-invariant-loop-behind l = lines_of l.rest ≡ drop l.behind (body_of l.bytes)
