@@ -107,6 +107,7 @@ module _ {V F S T : Type 0} (words : FamilyWords F (Posted V) S T) (obeys : V �
     within = within;
     opened = opened;
     each = λ i p h. each_new i p h;
+    told = λ i p h. ap (λ (z : Pass V F S T). z.told) (pass_there n first 0 seats passes i p are h).4;
   }
     where
       each_new : (i : ℕ) (p : Pass V F S T) → slice_get passes i ≡ Some p →

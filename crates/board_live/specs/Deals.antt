@@ -1,5 +1,5 @@
 -- What a new board is, with its passes (this project's own).
-use Rattle.std.specs.Prelude.{◌≡◌, Bool, IsTrue, ℕ, ◌<◌, ◌≤◌, List, [], length, slice_get, Some, Result, Ok, Err, Vec}
+use Rattle.std.specs.Prelude.{◌≡◌, Bool, IsTrue, ℕ, ◌<◌, ◌≤◌, List, [], length, slice_get, Some, Result, Ok, Err, Vec, true}
 use Rattle.std.proofs.Common.{Global}
 use Rattle.cell_contract.specs.declared.family.Family.{Ghosts as FamilyWords}
 use Rattle.matrix_core.specs.Stamps.{first_stamp}
@@ -12,7 +12,7 @@ use Rattle.board_live.specs.Passes.{HasMade, IsPass}
 
 module _ {V F S T : Type 0} (words : FamilyWords F (Posted V) S T) where
   -- a board of n processes with this limit, which opened with this record, and the passes of all,
-  -- with which no call was made yet
+  -- with which no call was made yet, and whose own record, the opening, was told
   pub record IsNew (obeys : V → Bool) (n limit : ℕ) (first : Posted V) (board : Board V F S T)
       (passes : List (Pass V F S T)) : Type 0 where
     pub size : (2 ≤ n) × (n ≤ 16)
@@ -22,6 +22,7 @@ module _ {V F S T : Type 0} (words : FamilyWords F (Posted V) S T) where
     pub opened : board.first ≡ first
     pub each : (i : ℕ) (p : Pass V F S T) → slice_get passes i ≡ Some p →
         IsPass words obeys board p × (p.process ≡ i) × (p.own ≡ first) × HasMade words board p []
+    pub told : (i : ℕ) (p : Pass V F S T) → slice_get passes i ≡ Some p → p.told ≡ true
 
   -- what `new` answers
   abbrev pub OpensWith : (V → Bool) → ℕ → ℕ → V → Result (Board V F S T × Vec (Pass V F S T) Global) BoardError → Type 0

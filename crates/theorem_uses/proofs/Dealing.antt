@@ -1,11 +1,13 @@
 -- Each is a part of its definition, or told by its case.
-use Rattle.std.proofs.Common.{◌≡◌, Bool, ℕ, ◌+◌, [], refl, subst, arith}
+use Rattle.std.proofs.Common.{◌≡◌, Bool, ℕ, ◌+◌, [], Some, slice_get, refl, subst, arith}
 use Rattle.history_core.specs.Others.{other}
 use Rattle.cell_contract.specs.Rows.{OneByOne}
 use Rattle.cell_contract.specs.Rows as rows
 use Rattle.cell_contract.specs.declared.family.Family.{Ghosts as FamilyWords}
 use Rattle.board_history.specs.OneRegister.{AreOfOne, Takes}
+use Rattle.board_live.specs.Deals.{IsNew}
 use Rattle.board_live.specs.declared.record.Posted.{Posted}
+use Rattle.theorem_uses.specs.Ends.{IsFresh}
 use Rattle.theorem_uses.specs.Dealt.{NewBoardsShow, OneOrderShows, OneRegisterShows, OpeningsShow, ReadsFromShow, RowsShow, SourcesShow}
 use Rattle.theorem_uses.specs.Dealt.{StepsRise, StepsShow, TimesShow, UnusedShow, WritesToShow}
 
@@ -20,8 +22,12 @@ module _ {V F S T : Type 0} (words : FamilyWords F (Posted V) S T) (obeys : V �
     is.within.0,
     is.within.1,
     is.opened,
-    is.each i p,
+    λ at. fresh is at,
   )
+    where
+      fresh : IsNew words obeys n limit first board passes → slice_get passes i ≡ Some p →
+          IsFresh words obeys board i p × (p.own ≡ first)
+      fresh is at = let e = is.each i p at in (record { of = e.0; who = e.1; none = e.3; told = is.told i p at }, e.2)
 
   pub opens : OpeningsShow words obeys
   opens n limit opening r = (

@@ -21,23 +21,22 @@ use Rattle.board_history.specs.BoardRuns.{Called, Did}
 use Rattle.board_history.specs.Histories.{ChoseFrom}
 use Rattle.board_history.specs.OneRegister.{AreOfOne, IsOneOrder, Named}
 use Rattle.board_live.specs.Deals.{IsNew, OpensWith}
-use Rattle.board_live.specs.Passes.{HasMade, IsPass}
 use Rattle.board_live.specs.Records.{Rises}
 use Rattle.board_live.specs.declared.board.Board.{Board}
 use Rattle.board_live.specs.declared.board.Pass.{Pass}
 use Rattle.board_live.specs.declared.deals.BoardError.TheVariants.{Processes, Limit, Opening, NoMemory}
 use Rattle.board_live.specs.declared.record.Posted.{Posted}
+use Rattle.theorem_uses.specs.Ends.{IsFresh}
 
 module _ {V F S T : Type 0} (words : FamilyWords F (Posted V) S T) (obeys : V → Bool) where
   -- a new board has as many processes as asked for, 2 to 16, the limit and the first record, and
-  -- a fresh pass of each process
+  -- a fresh pass of each process, whose own record is the first
   abbrev pub NewBoardsShow : Type 0
   NewBoardsShow = (n limit : ℕ) (first : Posted V) (board : Board V F S T) (passes : List (Pass V F S T)) (i : ℕ)
       (p : Pass V F S T) → IsNew words obeys n limit first board passes →
       (2 ≤ n) × (n ≤ 16) × (board.processes ≡ n) × (length passes ≡ n)
       × (board.limit ≡ limit) × (1 ≤ limit) × (limit < 18446744073709551615) × (board.first ≡ first)
-      × (slice_get passes i ≡ Some p → IsPass words obeys board p × (p.process ≡ i) × (p.own ≡ first)
-      × HasMade words board p [])
+      × (slice_get passes i ≡ Some p → IsFresh words obeys board i p × (p.own ≡ first))
 
   -- a new board opens at stamp 0.0; else the first thing that is out of bounds is named, or
   -- nothing is and there is no memory
