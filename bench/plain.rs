@@ -381,6 +381,9 @@ fn in_turn<P: Process>(processes: &mut [P], op: &str, calls: u64) -> u64 {
         let process = &mut processes[(number % n) as usize];
         if op == "write" {
             process.write(black_box(&[number; 3]));
+        } else if op == "round" {
+            processes[0].write(black_box(&[number; 3]));
+            processes[1..].iter_mut().for_each(|other| sum |= black_box(other.read())[0]);
         } else {
             sum |= black_box(process.read())[0];
         }
@@ -449,6 +452,67 @@ fn together<P: Process>(processes: Vec<P>) -> (f64, u64, Vec<u64>) {
     (speed, torn, all)
 }
 
+/// Eight processes, two in each of four threads, one of which calls at a beat, some microsecond apart; each makes a hundred reads to one write.
+/// The sorted times of writes and of reads, and the torn records.
+fn in_pairs<P: Process>(processes: Vec<P>) -> [Vec<u64>; 3] {
+    let start = Instant::now();
+    let now = move || start.elapsed().as_nanos() as u64;
+    let ready = Apart(AtomicU64::new(0));
+    let mut all = [vec![], vec![], vec![0]];
+    thread::scope(|s| {
+        let ready = &ready.0;
+        let task = |number: u64, mut pair: Vec<P>| {
+            s.spawn(move || {
+                let (mut writes, mut reads, mut torn) = (Vec::with_capacity(1_000), Vec::with_capacity(40_000), 0);
+                ready.fetch_add(1, SeqCst);
+                while ready.load(SeqCst) < 4 {}
+                let mut next = now();
+                for turn in 37 * number..37 * number + 20_000 {
+                    for process in &mut pair {
+                        next = (next + 1_000 + 37 * number).max(now());
+                        while now() < next {}
+                        let before = now();
+                        if turn % 101 == 0 {
+                            process.write(black_box(&[turn; 3]));
+                            writes.push(now() - before);
+                        } else {
+                            let answer = black_box(process.read());
+                            reads.push(now() - before);
+                            torn += (answer[0] != answer[1] || answer[1] != answer[2]) as u64;
+                        }
+                    }
+                }
+                [writes, reads, vec![torn]]
+            })
+        };
+        let mut left = processes.into_iter();
+        let tasks: Vec<_> = (0..4).map(|number| task(number, left.by_ref().take(2).collect())).collect();
+        for task in tasks {
+            let [writes, reads, torn] = task.join().unwrap();
+            all[0].extend(writes);
+            all[1].extend(reads);
+            all[2][0] += torn[0];
+        }
+    });
+    all.iter_mut().for_each(|times| times.sort());
+    all
+}
+
+fn paced_several<P: Process>(name: &str, cost: u64, processes: Vec<P>) {
+    let [writes, reads, torn] = in_pairs(processes);
+    for (call, times) in [("read", reads), ("write", writes)] {
+        let sum: u64 = times.iter().map(|time| time.saturating_sub(cost)).sum();
+        say(name, 3, "n8_paced", &format!("{call}_mean_ns"), sum as f64 / times.len() as f64);
+        for (share, metric) in [(5_000, "p50"), (9_900, "p99"), (9_990, "p99.9")] {
+            let time = times[times.len() * share / 10_000].saturating_sub(cost);
+            say(name, 3, "n8_paced", &format!("{call}_{metric}_ns"), time as f64);
+        }
+    }
+    if torn[0] > 0 {
+        say(name, 3, "n8_paced", "torn_or_backward", torn[0] as f64);
+    }
+}
+
 fn several<P: Process>(name: &str, make: fn(usize) -> Vec<P>) {
     let start = Instant::now();
     let now = || start.elapsed().as_nanos() as u64;
@@ -458,6 +522,7 @@ fn several<P: Process>(name: &str, make: fn(usize) -> Vec<P>) {
         let mode = format!("n{n}_solo");
         say(name, 3, &mode, "write_ns", per_turn(&mut processes, "write"));
         say(name, 3, &mode, "read_ns", per_turn(&mut processes, "read"));
+        say(name, 3, &mode, "round_ns", per_turn(&mut processes, "round"));
         for tasks in [2, 4].iter().copied().filter(|tasks| *tasks <= n) {
             let mode = format!("n{n}_t{tasks}");
             let (speed, torn, times) = together(make(n).into_iter().take(tasks).collect());
@@ -471,6 +536,7 @@ fn several<P: Process>(name: &str, make: fn(usize) -> Vec<P>) {
             }
         }
     }
+    paced_several(name, cost, make(8));
 }
 
 fn several_count(name: &str, n: usize, op: &str, calls: u64) {

@@ -60,10 +60,10 @@ sort -t, -k1,1 -k2,2n -k3,3 -k4,4 -k5,5g "$room/lines" | awk -F, '
             print ""
         }
         printf "\n%-24s %3s", "register of several", "n"
-        split("write ns|read ns|write insn|read insn|t2 Mop/s|t2 r p50|t2 r p99.9|t4 Mop/s|t4 r p50|t4 r p99.9", head, "|")
-        for (i = 1; i <= 10; i++) printf " | %-16s", head[i]
+        split("write ns|read ns|round ns|write insn|read insn|t2 Mop/s|t2 r p50|t2 r p99.9|t4 Mop/s|t4 r p50|t4 r p99.9", head, "|")
+        for (i = 1; i <= 11; i++) printf " | %-16s", head[i]
         print ""
-        split("_solo,write_ns _solo,read_ns write_insn read_insn _t2,total_mops _t2,read_p50_ns _t2,read_p99.9_ns _t4,total_mops _t4,read_p50_ns _t4,read_p99.9_ns", what, " ")
+        split("_solo,write_ns _solo,read_ns _solo,round_ns write_insn read_insn _t2,total_mops _t2,read_p50_ns _t2,read_p99.9_ns _t4,total_mops _t4,read_p50_ns _t4,read_p99.9_ns", what, " ")
         split("2 4 8 16", sizes, " ")
         for (k = 1; k <= 4; k++) for (j = 1; j <= count; j++) {
             split(order[j], part, ",")
@@ -71,10 +71,23 @@ sort -t, -k1,1 -k2,2n -k3,3 -k4,4 -k5,5g "$room/lines" | awk -F, '
             if (m[order[j] ",n" n "_solo,write_ns"] == "") continue
             base = part[1] ~ /triple/ ? "plain_board_triple" : "plain_board_four_slot"
             printf "%-24s %3d", part[1], n
-            for (i = 1; i <= 10; i++) {
+            for (i = 1; i <= 11; i++) {
                 if (what[i] ~ /insn/) cell(m[part[1] ":" n ",24,solo," what[i]], m[base ":" n ",24,solo," what[i]])
                 else cell(m[order[j] ",n" n what[i]], m[base ",24,n" n what[i]])
             }
+            print ""
+        }
+        printf "\n%-24s %3s", "eight, paced", ""
+        split("read mean|read p50|read p99|read p99.9|write mean|write p50|write p99|write p99.9", head, "|")
+        for (i = 1; i <= 8; i++) printf " | %-16s", head[i]
+        print ""
+        split("read_mean_ns read_p50_ns read_p99_ns read_p99.9_ns write_mean_ns write_p50_ns write_p99_ns write_p99.9_ns", what, " ")
+        for (j = 1; j <= count; j++) {
+            split(order[j], part, ",")
+            if (m[order[j] ",n8_paced,read_mean_ns"] == "") continue
+            base = part[1] ~ /triple/ ? "plain_board_triple" : "plain_board_four_slot"
+            printf "%-24s %3s", part[1], ""
+            for (i = 1; i <= 8; i++) cell(m[order[j] ",n8_paced," what[i]], m[base ",24,n8_paced," what[i]])
             print ""
         }
     }'

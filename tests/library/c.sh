@@ -234,6 +234,13 @@ test_in_c() {
                 -D"$(echo $wants | tr a-z A-Z)" c/tests/board_soak.c $flags -o "$room/program"
         done
     done
+    for family in '' -DTRIPLE; do
+        wants=passed
+        run_here "c/tests/told.c $family($c)" "$c" -std=c11 $strict -O2 $family c/tests/told.c $wrapped $flags -o "$room/program"
+        wants='hands nothing on'
+        run_control "c/tests/told.c $family, planted: a read that writes ($c)" \
+            "$c" -std=c11 $strict -O2 $family -DPLANTED c/tests/told.c $wrapped $flags -o "$room/program"
+    done
     wants=passed
     run_here "c/tests/apart.c ($c)" "$c" -std=c11 $strict -O2 c/tests/apart.c $wrapped $flags -o "$room/program"
     for wants in 'both sides store' 'in part alone'; do

@@ -3,7 +3,7 @@ ghost use Rattle.std.specs.Prelude.{IfOk};
 ghost use Rattle.board_live.specs.Ends.{AllPasses};
 ghost use Rattle.cells_bench.specs.Items.{no_law};
 
-use crate::boards_at_once;
+use crate::{boards_at_once, boards_paced};
 use crate::measure::{Batch, Op, per_call, say};
 use board_live::{Board, Pass, Posted, RecordLaw};
 use cell_contract::{Family, SharedFamily};
@@ -98,6 +98,32 @@ impl<F: Family<Posted<Item>>> Team<F> {
         }
         sum
     }
+
+    /// So many times the first process writes, and each other one reads. Gives a sum of what was read.
+    fn round(&mut self, times: u64) -> u64
+        requires { AllPasses ⟦<F as Family<Posted<Item>>>⟧ no_law self.old.board self.old.passes.items }
+        ensures { AllPasses ⟦<F as Family<Posted<Item>>>⟧ no_law self.new.board self.new.passes.items }
+    {
+        let mut sum = 0;
+        for number in 0..times {
+            let _ = self.board.write(&mut self.passes[0], Item::of(number));
+            sum |= self.others_read();
+        }
+        sum
+    }
+
+    /// Each process but the first reads.
+    fn others_read(&mut self) -> u64
+        requires { AllPasses ⟦<F as Family<Posted<Item>>>⟧ no_law self.old.board self.old.passes.items }
+        ensures { AllPasses ⟦<F as Family<Posted<Item>>>⟧ no_law self.new.board self.new.passes.items }
+    {
+        let n = self.passes.len();
+        let mut sum = 0;
+        for who in 1..n {
+            sum |= self.board.read(&mut self.passes[who]).item.joined();
+        }
+        sum
+    }
 }
 
 impl<F: Family<Posted<Item>>> Batch for Team<F> {
@@ -106,6 +132,7 @@ impl<F: Family<Posted<Item>>> Batch for Team<F> {
     fn batch(&mut self, op: Op, calls: u64) -> u64 {
         match op {
             Op::Read => self.read(calls),
+            Op::Round => self.round(calls),
             _ => {
                 self.write(calls);
                 0
@@ -125,16 +152,20 @@ pub fn calls<F: Family<Posted<Item>>>(
     Ok(team.batch(op, calls))
 }
 
-/// The picoseconds of a write and of a read, where the processes of one board call in turn in one thread.
-fn times<F: Family<Posted<Item>>>(
-    rt: &impl Clock,
-    alloc: Global,
-    n: usize,
-) -> io::Result<(u64, u64)> {
+/// The picoseconds of a call, where the processes of one board call in turn in one thread.
+#[derive(Clone, Copy)]
+struct Times {
+    write: u64,
+    read: u64,
+    round: u64,
+}
+
+fn times<F: Family<Posted<Item>>>(rt: &impl Clock, alloc: Global, n: usize) -> io::Result<Times> {
     let mut team = Team::<F>::new(alloc, n)?;
     let write = per_call(rt, alloc, &mut team, Op::Write)?;
     let read = per_call(rt, alloc, &mut team, Op::Read)?;
-    Ok((write, read))
+    let round = per_call(rt, alloc, &mut team, Op::Round)?;
+    Ok(Times { write, read, round })
 }
 
 fn alone<R: Clock + Print, F: Family<Posted<Item>>>(
@@ -143,10 +174,11 @@ fn alone<R: Clock + Print, F: Family<Posted<Item>>>(
     name: &str,
     n: usize,
 ) -> io::Result<()> {
-    let (write, read) = times::<F>(rt, alloc, n)?;
+    let times = times::<F>(rt, alloc, n)?;
     let mode = format!(in alloc; "n{n}_solo")?;
-    say(rt, name, 24, mode.as_str(), "write_ns", write)?;
-    say(rt, name, 24, mode.as_str(), "read_ns", read)
+    say(rt, name, 24, mode.as_str(), "write_ns", times.write)?;
+    say(rt, name, 24, mode.as_str(), "read_ns", times.read)?;
+    say(rt, name, 24, mode.as_str(), "round_ns", times.round)
 }
 
 /// Measures boards over one family.
@@ -167,5 +199,5 @@ where
             }
         }
     }
-    Ok(())
+    boards_paced::run::<R, F>(rt, alloc, name)
 }

@@ -23,7 +23,7 @@ const KEPT: usize = 200_000;
 
 /// What the tasks tell each other: how many have begun, and that the run is over.
 #[derive(Drop)]
-struct Signals {
+pub struct Signals {
     tasks: u64,
     begun: CachePadded<AtomicU64>,
     over: CachePadded<AtomicU64>,
@@ -39,7 +39,7 @@ impl Signals {
     }
 
     /// Waits until all tasks have begun.
-    fn meet(&self) {
+    pub fn meet(&self) {
         self.begun.fetch_add(1, Ordering::SeqCst);
         for _ in 0..u64::MAX {
             if self.begun.load(Ordering::SeqCst) >= self.tasks {
@@ -68,7 +68,7 @@ struct Task<'a, F: Family<Posted<Item>>> {
 }
 
 /// What runs until the time is over.
-trait Runs {
+pub trait Runs {
     ghost ready: { Self → Type 0 };
 
     fn run<R: Clock>(&mut self, rt: &R, signals: &Signals)
@@ -170,7 +170,7 @@ fn make_tasks<'a, F: Family<Posted<Item>>>(
 }
 
 /// Runs each task in a thread of its own.
-fn run_each<R: Clock + Threads + Sync, X: Runs + Send>(rt: &R, tasks: &mut [CachePadded<X>])
+pub fn run_each<R: Clock + Threads + Sync, X: Runs + Send>(rt: &R, tasks: &mut [CachePadded<X>])
     requires { All (λ t. X.ready t.value) tasks.old }
 {
     let count = tasks.len();

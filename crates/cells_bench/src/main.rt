@@ -5,6 +5,7 @@
 
 mod boards;
 mod boards_at_once;
+mod boards_paced;
 mod duo;
 mod measure;
 mod paced;
@@ -42,6 +43,7 @@ fn main(rt: HostRuntime) -> io::Result<()> {
             let op = match op.as_str() {
                 "write" => Op::Write,
                 "look" => Op::Look,
+                "round" => Op::Round,
                 _ => Op::Read,
             };
             let calls = calls.as_str().parse::<u64>().unwrap_or(0);

@@ -9,6 +9,8 @@ pub enum Op {
     Write,
     Read,
     Look,
+    /// A write of one process, and a read of each other one.
+    Round,
 }
 
 /// What is asked of a cell or a board: all its measures, or so many calls.

@@ -15,7 +15,7 @@ use std::time::Instant;
 const CALLS: u64 = 40_000;
 
 /// Waits for the next beat. One that was missed isn't made up for.
-fn next_beat(rt: &impl Clock, start: Instant, next: u64, step: u64) -> u64 {
+pub fn next_beat(rt: &impl Clock, start: Instant, next: u64, step: u64) -> u64 {
     let mut now = since(rt, start);
     let next = now.max(next.saturating_add(step));
     for _ in 0..u64::MAX {
