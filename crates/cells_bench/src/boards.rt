@@ -3,8 +3,8 @@ ghost use Rattle.std.specs.Prelude.{IfOk};
 ghost use Rattle.board_live.specs.Ends.{AllPasses};
 ghost use Rattle.cells_bench.specs.Items.{no_law};
 
-use crate::{boards_at_once, boards_paced};
 use crate::measure::{Batch, Op, per_call, say};
+use crate::{boards_at_once, boards_paced};
 use board_live::{Board, Pass, Posted, RecordLaw};
 use cell_contract::{Family, SharedFamily};
 use std::alloc::{AllocError, Global};
@@ -154,18 +154,22 @@ pub fn calls<F: Family<Posted<Item>>>(
 
 /// The picoseconds of a call, where the processes of one board call in turn in one thread.
 #[derive(Clone, Copy)]
-struct Times {
+struct TurnTimes {
     write: u64,
     read: u64,
     round: u64,
 }
 
-fn times<F: Family<Posted<Item>>>(rt: &impl Clock, alloc: Global, n: usize) -> io::Result<Times> {
+fn times<F: Family<Posted<Item>>>(
+    rt: &impl Clock,
+    alloc: Global,
+    n: usize,
+) -> io::Result<TurnTimes> {
     let mut team = Team::<F>::new(alloc, n)?;
     let write = per_call(rt, alloc, &mut team, Op::Write)?;
     let read = per_call(rt, alloc, &mut team, Op::Read)?;
     let round = per_call(rt, alloc, &mut team, Op::Round)?;
-    Ok(Times { write, read, round })
+    Ok(TurnTimes { write, read, round })
 }
 
 fn alone<R: Clock + Print, F: Family<Posted<Item>>>(

@@ -105,9 +105,23 @@ impl<'a, F: Family<Posted<Item>>> Runs for Pair<'a, F> {
         for number in 0..CALLS {
             let turn = begins.saturating_add(number);
             next = next_beat(rt, self.start, next, step);
-            call(rt, self.start, self.board, &mut self.first, turn, &mut self.times);
+            call(
+                rt,
+                self.start,
+                self.board,
+                &mut self.first,
+                turn,
+                &mut self.times,
+            );
             next = next_beat(rt, self.start, next, step);
-            call(rt, self.start, self.board, &mut self.second, turn, &mut self.times);
+            call(
+                rt,
+                self.start,
+                self.board,
+                &mut self.second,
+                turn,
+                &mut self.times,
+            );
         }
     }
 }
@@ -122,7 +136,7 @@ fn make_pairs<'a, F: Family<Posted<Item>>>(
     requires { All (IsPass ⟦<F as Family<Posted<Item>>>⟧ no_law board.now) passes.items }
     ensures { IfOk result
         (λ pairs. All (λ p. IsPass ⟦<F as Family<Posted<Item>>>⟧ no_law p.value.board.now p.value.first
-            × IsPass ⟦<F as Family<Posted<Item>>>⟧ no_law p.value.board.now p.value.second) pairs.items) }
+        × IsPass ⟦<F as Family<Posted<Item>>>⟧ no_law p.value.board.now p.value.second) pairs.items) }
 {
     let mut pairs = Vec::new(alloc);
     for number in 0..THREADS {
@@ -226,9 +240,19 @@ where
     let start = Instant::now(rt)?;
     let cost = clock_cost(rt, start);
     let times = measure::<R, F>(rt, alloc, start)?;
-    let reads = ["read_mean_ns", "read_p50_ns", "read_p99_ns", "read_p99.9_ns"];
+    let reads = [
+        "read_mean_ns",
+        "read_p50_ns",
+        "read_p99_ns",
+        "read_p99.9_ns",
+    ];
     say_times(rt, name, reads, times.reads.as_slice(), cost)?;
-    let writes = ["write_mean_ns", "write_p50_ns", "write_p99_ns", "write_p99.9_ns"];
+    let writes = [
+        "write_mean_ns",
+        "write_p50_ns",
+        "write_p99_ns",
+        "write_p99.9_ns",
+    ];
     say_times(rt, name, writes, times.writes.as_slice(), cost)?;
     if times.torn == 0 {
         return Ok(());

@@ -9,7 +9,7 @@ pub enum Op {
     Write,
     Read,
     Look,
-    /// A write of one process, and a read of each other one.
+    /// A write, and a read of each other process.
     Round,
 }
 

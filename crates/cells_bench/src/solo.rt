@@ -24,7 +24,28 @@ fn batch<W: Words, C: Calls<Record<W>>>(
         Op::Write => write(cell, put, calls),
         Op::Read => read(cell, get, calls),
         Op::Look => look(cell, get, calls),
+        Op::Round => round(cell, put, get, calls),
     }
+}
+
+/// A write and a read of its record, so many times.
+fn round<W: Words, C: Calls<Record<W>>>(
+    cell: &C,
+    put: &mut C::Put,
+    get: &mut C::Get,
+    times: u64,
+) -> u64
+    requires { C.is_put cell.now put.old × C.is_get cell.now get.old }
+    ensures { C.is_put cell.now put.new × C.is_get cell.now get.new }
+{
+    let mut item = Record::<W>::zero();
+    let mut sum = 0;
+    for number in 0..times {
+        item.mark(number);
+        cell.write_from(put, &item);
+        sum |= cell.read(get).word(number);
+    }
+    sum
 }
 
 fn write<W: Words, C: Calls<Record<W>>>(cell: &C, put: &mut C::Put, calls: u64) -> u64
