@@ -1,5 +1,5 @@
-//! Control tasks over a board of eight processes. Each of four threads makes the calls of two of them, one at a beat, some microsecond
-//! apart. A process makes a hundred reads to one write, and each call is timed.
+//! Control tasks over a board of eight processes. Each of four threads makes the calls of two of them, one at a beat,
+//! some microsecond apart. A process makes a hundred reads to one write, and each call is timed.
 ghost use Rattle.std.specs.Prelude.{All, IfOk};
 ghost use Rattle.board_live.specs.Passes.{IsPass};
 ghost use Rattle.cells_bench.specs.Items.{no_law};

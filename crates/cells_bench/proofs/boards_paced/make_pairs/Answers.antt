@@ -20,7 +20,8 @@ loop-number-preserved g c =
     let two = all_at is (left ++ second ∷ []) left second [] (sym (append-nil (left ++ second ∷ []))) then in (
       all_front is left (second ∷ []) then,
       rw c.in_ok-push.ensures.items
-          (all_snoc (λ p. IsPass g.F.Family no_law p.value.board.now p.value.first × IsPass g.F.Family no_law p.value.board.now p.value.second)
+          (all_snoc (λ p. IsPass g.F.Family no_law p.value.board.now p.value.first
+          × IsPass g.F.Family no_law p.value.board.now p.value.second)
           c.loop-number.pairs.items c.new-in-loop-number.result c.loop-number.invariant.1
           (rw c.new-in-loop-number.ensures (one, two))),
     )
