@@ -6,8 +6,12 @@ A handle's `live` is the number of its type where it has a side. 0 is no side, a
 
 import os
 
-SIZES = (8, 24, 64, 256, 1024, 4096, 65536, 1048576)
+# The sizes of a register's records, by when they came: the number of a handle's type never changes, so a later size, whatever it is, is
+# numbered behind all that was there.
+FIRST_SIZES = (8, 24, 64, 256, 1024, 4096, 65536, 1048576)
 BOARD_SIZES = (24, 256, 4096)
+LATER_SIZES = (128,)
+SIZES = tuple(sorted(FIRST_SIZES + LATER_SIZES))
 TEMPLATES = os.path.join(os.path.dirname(os.path.realpath(__file__)), "handles")
 
 # The sides of a cell and the places at boards: the struct's name without the size, the type that it has, and what it is in words.
@@ -27,8 +31,11 @@ CITES = (("Loose.take", "Take"), ("Loose.put", "Put"), ("LooseHolds{struct}.reac
 
 
 def kinds():
-    """Each kind of side: its struct, its module, the type in it, its words and its number. A number never changes."""
-    sides = [(kind, size) for size in SIZES for kind in CELL_SIDES] + [(kind, size) for kind in PLACES for size in BOARD_SIZES]
+    """Each kind of side, by its number: its struct, its module, the type in it, its words and its number. A number never changes: what is
+    new comes last."""
+    sides = [(kind, size) for size in FIRST_SIZES for kind in CELL_SIDES]
+    sides += [(kind, size) for kind in PLACES for size in BOARD_SIZES]
+    sides += [(kind, size) for size in LATER_SIZES for kind in CELL_SIDES]
     for code, ((struct, module, holds, words), size) in enumerate(sides, 1):
         yield {
             "struct": f"{struct}{size}",

@@ -83,7 +83,7 @@ void *memset(void *to, int value, size_t size);
 
 /* The size of the library's records that a record of this size goes into. */
 #define NIDZARU_SIZE(size)                                                                                            \
-    ((size) <= 8 ? 8 : (size) <= 24 ? 24 : (size) <= 64 ? 64 : (size) <= 256 ? 256                                    \
+    ((size) <= 8 ? 8 : (size) <= 24 ? 24 : (size) <= 64 ? 64 : (size) <= 128 ? 128 : (size) <= 256 ? 256              \
      : (size) <= 1024 ? 1024 : (size) <= 4096 ? 4096 : (size) <= 65536 ? 65536 : 1048576)
 
 /* Records that are as large as the library's and aligned to 8 or more are passed where they lie, others through a copy that the
@@ -288,6 +288,7 @@ void __msan_unpoison(const volatile void *at, size_t size);
 NIDZARU_DECLARE(8)
 NIDZARU_DECLARE(24)
 NIDZARU_DECLARE(64)
+NIDZARU_DECLARE(128)
 NIDZARU_DECLARE(256)
 NIDZARU_DECLARE(1024)
 NIDZARU_DECLARE(4096)
@@ -296,6 +297,7 @@ NIDZARU_DECLARE(1048576)
 NIDZARU_DECLARE(triple_8)
 NIDZARU_DECLARE(triple_24)
 NIDZARU_DECLARE(triple_64)
+NIDZARU_DECLARE(triple_128)
 NIDZARU_DECLARE(triple_256)
 NIDZARU_DECLARE(triple_1024)
 NIDZARU_DECLARE(triple_4096)
@@ -319,6 +321,7 @@ typedef struct nidzaru_lent {
 NIDZARU_DECLARE_HOLD(triple_8)
 NIDZARU_DECLARE_HOLD(triple_24)
 NIDZARU_DECLARE_HOLD(triple_64)
+NIDZARU_DECLARE_HOLD(triple_128)
 NIDZARU_DECLARE_HOLD(triple_256)
 NIDZARU_DECLARE_HOLD(triple_1024)
 NIDZARU_DECLARE_HOLD(triple_4096)
@@ -402,6 +405,7 @@ NIDZARU_INLINE void nidzaru_take(void *slot) { __tsan_acquire(slot); }
     ((size) == 8       ? (triple) ? nidzaru_triple_8_##call arguments : nidzaru_8_##call arguments                    \
      : (size) == 24    ? (triple) ? nidzaru_triple_24_##call arguments : nidzaru_24_##call arguments                  \
      : (size) == 64    ? (triple) ? nidzaru_triple_64_##call arguments : nidzaru_64_##call arguments                  \
+     : (size) == 128   ? (triple) ? nidzaru_triple_128_##call arguments : nidzaru_128_##call arguments                \
      : (size) == 256   ? (triple) ? nidzaru_triple_256_##call arguments : nidzaru_256_##call arguments                \
      : (size) == 1024  ? (triple) ? nidzaru_triple_1024_##call arguments : nidzaru_1024_##call arguments              \
      : (size) == 4096  ? (triple) ? nidzaru_triple_4096_##call arguments : nidzaru_4096_##call arguments              \
@@ -472,6 +476,7 @@ NIDZARU_CHECKED int nidzaru_sized_look(int triple, size_t size, nidzaru_handle *
     ((size) == 8       ? nidzaru_triple_8_##call arguments                                                            \
      : (size) == 24    ? nidzaru_triple_24_##call arguments                                                           \
      : (size) == 64    ? nidzaru_triple_64_##call arguments                                                           \
+     : (size) == 128   ? nidzaru_triple_128_##call arguments                                                          \
      : (size) == 256   ? nidzaru_triple_256_##call arguments                                                          \
      : (size) == 1024  ? nidzaru_triple_1024_##call arguments                                                         \
      : (size) == 4096  ? nidzaru_triple_4096_##call arguments                                                         \

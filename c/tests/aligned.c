@@ -76,11 +76,12 @@ static int is_filled(const void *item, size_t size, unsigned char from) {
         check(!name##s_end(&places[0]) && !name##s_end(&places[1]), #name, "ends");                                   \
     }
 
-/* A size of the library's own is passed where it lies (64, 256, 4,096 and 65,536 bytes), another goes through a copy. */
+/* A size of the library's own is passed where it lies (64, 128, 256, 4,096 and 65,536 bytes), another goes through a copy. */
 REGISTER(by16_of_16, NIDZARU_REGISTER, 16, 16)
 REGISTER(by16_of_48, NIDZARU_TRIPLE_REGISTER, 16, 48)
 REGISTER(by16_of_64, NIDZARU_REGISTER, 16, 64)
 REGISTER(by32_of_32, NIDZARU_REGISTER, 32, 32)
+REGISTER(by32_of_96, NIDZARU_TRIPLE_REGISTER, 32, 96)
 REGISTER(by32_of_128, NIDZARU_TRIPLE_REGISTER, 32, 128)
 REGISTER(by64_of_64, NIDZARU_TRIPLE_REGISTER, 64, 64)
 REGISTER(by64_of_192, NIDZARU_REGISTER, 64, 192)
@@ -98,6 +99,7 @@ int main(void) {
     test_by16_of_48();
     test_by16_of_64();
     test_by32_of_32();
+    test_by32_of_96();
     test_by32_of_128();
     test_by64_of_64();
     test_by64_of_192();

@@ -154,17 +154,21 @@ static void check_lines(const char *name) {
     }
 
 CHECK(four_slot_24, 24, NIDZARU_REGISTER)
+CHECK(four_slot_128, 128, NIDZARU_REGISTER)
 CHECK(four_slot_256, 256, NIDZARU_REGISTER)
 CHECK(four_slot_65536, 65536, NIDZARU_REGISTER)
 CHECK(triple_24, 24, NIDZARU_TRIPLE_REGISTER)
+CHECK(triple_128, 128, NIDZARU_TRIPLE_REGISTER)
 CHECK(triple_256, 256, NIDZARU_TRIPLE_REGISTER)
 CHECK(triple_65536, 65536, NIDZARU_TRIPLE_REGISTER)
 
 int main(void) {
     check_four_slot_24();
+    check_four_slot_128();
     check_four_slot_256();
     check_four_slot_65536();
     check_triple_24();
+    check_triple_128();
     check_triple_256();
     check_triple_65536();
     if (!failed) puts("passed");

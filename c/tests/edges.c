@@ -19,11 +19,12 @@ typedef struct {
     {#cell, size, triple, nidzaru_##cell##_write, nidzaru_##cell##_read, nidzaru_##cell##_look, nidzaru_##cell##_end_writer,  \
      nidzaru_##cell##_end_reader}
 static const calls library[] = {
-    CALLS(8, 8, 0),           CALLS(24, 24, 0),         CALLS(64, 64, 0),         CALLS(256, 256, 0),
-    CALLS(1024, 1024, 0),     CALLS(4096, 4096, 0),     CALLS(65536, 65536, 0),   CALLS(1048576, 1048576, 0),
-    CALLS(triple_8, 8, 1),    CALLS(triple_24, 24, 1),  CALLS(triple_64, 64, 1),  CALLS(triple_256, 256, 1),
-    CALLS(triple_1024, 1024, 1), CALLS(triple_4096, 4096, 1), CALLS(triple_65536, 65536, 1),
-    CALLS(triple_1048576, 1048576, 1),
+    CALLS(8, 8, 0),              CALLS(24, 24, 0),            CALLS(64, 64, 0),
+    CALLS(128, 128, 0),          CALLS(256, 256, 0),          CALLS(1024, 1024, 0),
+    CALLS(4096, 4096, 0),        CALLS(65536, 65536, 0),      CALLS(1048576, 1048576, 0),
+    CALLS(triple_8, 8, 1),       CALLS(triple_24, 24, 1),     CALLS(triple_64, 64, 1),
+    CALLS(triple_128, 128, 1),   CALLS(triple_256, 256, 1),   CALLS(triple_1024, 1024, 1),
+    CALLS(triple_4096, 4096, 1), CALLS(triple_65536, 65536, 1), CALLS(triple_1048576, 1048576, 1),
 };
 enum { CELLS = sizeof library / sizeof library[0] };
 
@@ -67,7 +68,8 @@ static void only_these(const char *name, size_t size, int triple, nidzaru_side *
 }
 
 /* A record is passed where it lies only if it fills the library's and is aligned to 8. */
-NIDZARU_ASSERT(NIDZARU_WATCHED || (NIDZARU_PASSES(24, 8) && NIDZARU_PASSES(4096, 8)), "records that are passed where they lie");
+NIDZARU_ASSERT(NIDZARU_WATCHED || (NIDZARU_PASSES(24, 8) && NIDZARU_PASSES(128, 8) && NIDZARU_PASSES(4096, 8)),
+               "records that are passed where they lie");
 NIDZARU_ASSERT(!NIDZARU_PASSES(24, 4) && !NIDZARU_PASSES(8, 1) && !NIDZARU_PASSES(16, 8) && !NIDZARU_PASSES(4088, 8), "records that are copied");
 
 /* Each record goes into the least of the library's that has room. */

@@ -37,6 +37,7 @@ static uint32_t ends(uint32_t status, const nidzaru_lent *at, size_t size) {
 LED(8)
 LED(24)
 LED(64)
+LED(128)
 LED(256)
 LED(1024)
 LED(4096)

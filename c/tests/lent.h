@@ -38,6 +38,7 @@ REGISTER(of8, NIDZARU_TRIPLE_REGISTER, 8);
 REGISTER(of24, NIDZARU_TRIPLE_REGISTER, 24);
 REGISTER(of64, NIDZARU_TRIPLE_REGISTER, 64);
 REGISTER(of100, NIDZARU_TRIPLE_REGISTER, 100);
+REGISTER(of128, NIDZARU_TRIPLE_REGISTER, 128);
 REGISTER(of256, NIDZARU_TRIPLE_REGISTER, 256);
 REGISTER(of1000, NIDZARU_TRIPLE_REGISTER, 1000);
 REGISTER(of4096, NIDZARU_TRIPLE_REGISTER, 4096);
@@ -48,8 +49,8 @@ REGISTER(four, NIDZARU_REGISTER, 24);
 
 /* What is written once for each triple buffer. */
 #define EACH_SIZE(what)                                                                                                \
-    what(byte) what(of8) what(of24) what(of64) what(of100) what(of256) what(of1000) what(of4096) what(of5000)         \
-    what(of65536) what(of1048576)
+    what(byte) what(of8) what(of24) what(of64) what(of100) what(of128) what(of256) what(of1000) what(of4096)          \
+    what(of5000) what(of65536) what(of1048576)
 
 struct page {
     uint64_t words[512];

@@ -132,7 +132,8 @@ static void see(const char *name, size_t count, size_t bytes, size_t requests, i
     }
 
 #define EACH_SIZE(OF)                                                                                                 \
-    OF(1) OF(8) OF(9) OF(24) OF(25) OF(64) OF(65) OF(256) OF(257) OF(1024) OF(1025) OF(4096) OF(4097) OF(65536) OF(65537) OF(1048576)
+    OF(1) OF(8) OF(9) OF(24) OF(25) OF(64) OF(65) OF(128) OF(129) OF(256) OF(257)                                         \
+    OF(1024) OF(1025) OF(4096) OF(4097) OF(65536) OF(65537) OF(1048576)
 #define EACH_FAN(OF) OF(1, 1) OF(24, 3) OF(257, 2) OF(4096, 16)
 #define EACH_BOARD_SIZE(OF) OF(1) OF(24) OF(25) OF(256) OF(257) OF(4096)
 

@@ -70,7 +70,7 @@ template <nidzaru::cell C, std::size_t... sizes> void see_boards() {
 }
 
 template <nidzaru::cell C> void see_all() {
-    see_registers<C, 1, 8, 9, 24, 25, 64, 65, 256, 257, 1024, 1025, 4096, 4097, 65536, 65537, 1048576>();
+    see_registers<C, 1, 8, 9, 24, 25, 64, 65, 128, 129, 256, 257, 1024, 1025, 4096, 4097, 65536, 65537, 1048576>();
     see_fan<C, 1, 1>();
     see_fan<C, 24, 3>();
     see_fan<C, 257, 2>();

@@ -48,7 +48,7 @@ RACES = ["gcc", "-std=c11", "-D_GNU_SOURCE", "-g", "-O1", "-w", "-pthread", "-fs
 RACES_CPP = ["g++", "-std=c++17", "-g", "-O1", "-w", "-pthread", "-fsanitize=thread"]
 ADDRESSES = ["gcc", "-std=c11", "-g", "-O1", "-w", "-pthread", "-fsanitize=address"]
 UNFILLED = ["clang", "-std=c11", "-O0", "-w", "-fsanitize=memory"]
-LED = [f"triple_{size}_{call}" for size in (8, 24, 64, 256, 1024, 4096, 65536, 1048576) for call in ("hold", "loan")]
+LED = [f"triple_{size}_{call}" for size in (8, 24, 64, 128, 256, 1024, 4096, 65536, 1048576) for call in ("hold", "loan")]
 # Tests that are built and run: the compiler, the sources, its words, and what the linker puts between.
 PROGRAMS = {
     "calls": (C11, "calls.c", [], wraps(MEMORY)),

@@ -17,7 +17,7 @@ wrapped='-Wl,--wrap=malloc,--wrap=realloc,--wrap=free'
 paused='-Wl,--wrap=nidzaru_8_write,--wrap=nidzaru_8_read,--wrap=nidzaru_8_look,--wrap=nidzaru_triple_8_write,--wrap=nidzaru_triple_8_look'
 paused=$paused,--wrap=nidzaru_triple_8_publish,--wrap=nidzaru_board_24_write,--wrap=nidzaru_board_24_read,--wrap=nidzaru_board_24_read_since
 led=
-for size in 8 24 64 256 1024 4096 65536 1048576; do
+for size in 8 24 64 128 256 1024 4096 65536 1048576; do
     led="$led -Wl,--wrap=nidzaru_triple_${size}_hold,--wrap=nidzaru_triple_${size}_loan"
 done
 calls='write read look hold loan publish end_writer end_reader board_write board_read board_read_since board_end'

@@ -37,3 +37,7 @@ pub mod four_slot_place_4096
 pub mod triple_place_24
 pub mod triple_place_256
 pub mod triple_place_4096
+pub mod four_slot_writer_128
+pub mod four_slot_reader_128
+pub mod triple_writer_128
+pub mod triple_reader_128

@@ -1,7 +1,8 @@
 //! What crosses to C has the sizes and the alignment that the header has, here the records'.
 
 use crate::record::{
-    Record8, Record24, Record64, Record256, Record1024, Record4096, Record65536, Record1048576,
+    Record8, Record24, Record64, Record128, Record256, Record1024, Record4096, Record65536,
+    Record1048576,
 };
 
 const _: () = prove!(size_of::<Record8>() == 8);
@@ -9,6 +10,8 @@ const _: () = prove!(size_of::<Record8>() == 8);
 const _: () = prove!(size_of::<Record24>() == 24);
 
 const _: () = prove!(size_of::<Record64>() == 64);
+
+const _: () = prove!(size_of::<Record128>() == 128);
 
 const _: () = prove!(size_of::<Record256>() == 256);
 
@@ -25,6 +28,8 @@ const _: () = prove!(align_of::<Record8>() == 8);
 const _: () = prove!(align_of::<Record24>() == 8);
 
 const _: () = prove!(align_of::<Record64>() == 8);
+
+const _: () = prove!(align_of::<Record128>() == 8);
 
 const _: () = prove!(align_of::<Record256>() == 8);
 

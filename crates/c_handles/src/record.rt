@@ -26,6 +26,13 @@ pub struct Record64 {
     pub words: [u64; 8],
 }
 
+/// A record of 128 bytes.
+#[repr(C)]
+#[derive(Clone, Copy)]
+pub struct Record128 {
+    pub words: [u64; 16],
+}
+
 /// A record of 256 bytes.
 #[repr(C)]
 #[derive(Clone, Copy, PartialEq, Eq)]

@@ -4,7 +4,8 @@ ghost use Rattle.std.specs.Prelude.{◌≡◌};
 
 use crate::place::{FourSlotPlace, TriplePlace};
 use crate::record::{
-    Record8, Record24, Record64, Record256, Record1024, Record4096, Record65536, Record1048576,
+    Record8, Record24, Record64, Record128, Record256, Record1024, Record4096, Record65536,
+    Record1048576,
 };
 use c_boards::Seated;
 use c_registers::{FourSlotReader, FourSlotWriter, TripleReader, TripleWriter, Wraps};
@@ -972,6 +973,106 @@ impl Wraps<TripleSeat4096> for TriplePlace4096 {
 
     fn whole(variant: TripleSeat4096) -> TriplePlace4096 {
         TriplePlace4096 { it: variant }
+    }
+
+    ghost whole_of = { λ d. refl };
+}
+
+/// The writing side of a four-slot cell with records of 128 bytes.
+#[derive(Drop)]
+pub struct FourSlotWriter128 {
+    pub it: FourSlotWriter<Record128>,
+}
+
+impl Wraps<FourSlotWriter<Record128>> for FourSlotWriter128 {
+    ghost use Rattle.std.proofs.Common.{refl};
+
+    ghost inner = { λ d. d.it };
+
+    ghost side = { λ s. record { it = s } };
+
+    #[inline]
+    fn inside(&mut self) -> &mut FourSlotWriter<Record128> {
+        &mut self.it
+    }
+
+    fn whole(variant: FourSlotWriter<Record128>) -> FourSlotWriter128 {
+        FourSlotWriter128 { it: variant }
+    }
+
+    ghost whole_of = { λ d. refl };
+}
+
+/// The reading side of a four-slot cell with records of 128 bytes.
+#[derive(Drop)]
+pub struct FourSlotReader128 {
+    pub it: FourSlotReader<Record128>,
+}
+
+impl Wraps<FourSlotReader<Record128>> for FourSlotReader128 {
+    ghost use Rattle.std.proofs.Common.{refl};
+
+    ghost inner = { λ d. d.it };
+
+    ghost side = { λ s. record { it = s } };
+
+    #[inline]
+    fn inside(&mut self) -> &mut FourSlotReader<Record128> {
+        &mut self.it
+    }
+
+    fn whole(variant: FourSlotReader<Record128>) -> FourSlotReader128 {
+        FourSlotReader128 { it: variant }
+    }
+
+    ghost whole_of = { λ d. refl };
+}
+
+/// The writing side of a triple buffer with records of 128 bytes.
+#[derive(Drop)]
+pub struct TripleWriter128 {
+    pub it: TripleWriter<Record128>,
+}
+
+impl Wraps<TripleWriter<Record128>> for TripleWriter128 {
+    ghost use Rattle.std.proofs.Common.{refl};
+
+    ghost inner = { λ d. d.it };
+
+    ghost side = { λ s. record { it = s } };
+
+    #[inline]
+    fn inside(&mut self) -> &mut TripleWriter<Record128> {
+        &mut self.it
+    }
+
+    fn whole(variant: TripleWriter<Record128>) -> TripleWriter128 {
+        TripleWriter128 { it: variant }
+    }
+
+    ghost whole_of = { λ d. refl };
+}
+
+/// The reading side of a triple buffer with records of 128 bytes.
+#[derive(Drop)]
+pub struct TripleReader128 {
+    pub it: TripleReader<Record128>,
+}
+
+impl Wraps<TripleReader<Record128>> for TripleReader128 {
+    ghost use Rattle.std.proofs.Common.{refl};
+
+    ghost inner = { λ d. d.it };
+
+    ghost side = { λ s. record { it = s } };
+
+    #[inline]
+    fn inside(&mut self) -> &mut TripleReader<Record128> {
+        &mut self.it
+    }
+
+    fn whole(variant: TripleReader<Record128>) -> TripleReader128 {
+        TripleReader128 { it: variant }
     }
 
     ghost whole_of = { λ d. refl };

@@ -102,6 +102,7 @@ macro_rules! calls {
 calls!(FOUR_SLOT_8, 8, "8");
 calls!(FOUR_SLOT_24, 24, "24");
 calls!(FOUR_SLOT_64, 64, "64");
+calls!(FOUR_SLOT_128, 128, "128");
 calls!(FOUR_SLOT_256, 256, "256");
 calls!(FOUR_SLOT_1024, 1024, "1024");
 calls!(FOUR_SLOT_4096, 4096, "4096");
@@ -110,6 +111,7 @@ calls!(FOUR_SLOT_1048576, 1048576, "1048576");
 calls!(TRIPLE_8, 8, "triple_8");
 calls!(TRIPLE_24, 24, "triple_24");
 calls!(TRIPLE_64, 64, "triple_64");
+calls!(TRIPLE_128, 128, "triple_128");
 calls!(TRIPLE_256, 256, "triple_256");
 calls!(TRIPLE_1024, 1024, "triple_1024");
 calls!(TRIPLE_4096, 4096, "triple_4096");
@@ -120,6 +122,7 @@ extern "C" {
     fn nidzaru_triple_8_hold(reader: *mut Side, at: *mut Lent) -> u32;
     fn nidzaru_triple_24_hold(reader: *mut Side, at: *mut Lent) -> u32;
     fn nidzaru_triple_64_hold(reader: *mut Side, at: *mut Lent) -> u32;
+    fn nidzaru_triple_128_hold(reader: *mut Side, at: *mut Lent) -> u32;
     fn nidzaru_triple_256_hold(reader: *mut Side, at: *mut Lent) -> u32;
     fn nidzaru_triple_1024_hold(reader: *mut Side, at: *mut Lent) -> u32;
     fn nidzaru_triple_4096_hold(reader: *mut Side, at: *mut Lent) -> u32;
@@ -133,6 +136,7 @@ const fn hold_for(size: usize) -> Hold {
         8 => nidzaru_triple_8_hold,
         24 => nidzaru_triple_24_hold,
         64 => nidzaru_triple_64_hold,
+        128 => nidzaru_triple_128_hold,
         256 => nidzaru_triple_256_hold,
         1024 => nidzaru_triple_1024_hold,
         4096 => nidzaru_triple_4096_hold,
@@ -167,6 +171,7 @@ const fn in_place_for(size: usize) -> InPlace {
         8 => in_place!("triple_8"),
         24 => in_place!("triple_24"),
         64 => in_place!("triple_64"),
+        128 => in_place!("triple_128"),
         256 => in_place!("triple_256"),
         1024 => in_place!("triple_1024"),
         4096 => in_place!("triple_4096"),
@@ -207,7 +212,8 @@ pub const fn calls_for(size: usize, triple: bool) -> &'static Calls {
         (0..=8, false) => &FOUR_SLOT_8,
         (9..=24, false) => &FOUR_SLOT_24,
         (25..=64, false) => &FOUR_SLOT_64,
-        (65..=256, false) => &FOUR_SLOT_256,
+        (65..=128, false) => &FOUR_SLOT_128,
+        (129..=256, false) => &FOUR_SLOT_256,
         (257..=1024, false) => &FOUR_SLOT_1024,
         (1025..=4096, false) => &FOUR_SLOT_4096,
         (4097..=65536, false) => &FOUR_SLOT_65536,
@@ -215,7 +221,8 @@ pub const fn calls_for(size: usize, triple: bool) -> &'static Calls {
         (0..=8, true) => &TRIPLE_8,
         (9..=24, true) => &TRIPLE_24,
         (25..=64, true) => &TRIPLE_64,
-        (65..=256, true) => &TRIPLE_256,
+        (65..=128, true) => &TRIPLE_128,
+        (129..=256, true) => &TRIPLE_256,
         (257..=1024, true) => &TRIPLE_1024,
         (1025..=4096, true) => &TRIPLE_4096,
         (4097..=65536, true) => &TRIPLE_65536,
@@ -358,6 +365,7 @@ macro_rules! by_small_size {
             8 => $call::<_, 1> $arguments,
             24 => $call::<_, 3> $arguments,
             64 => $call::<_, 8> $arguments,
+            128 => $call::<_, 16> $arguments,
             256 => $call::<_, 32> $arguments,
             1024 => $call::<_, 128> $arguments,
             _ => $call::<_, 512> $arguments,
@@ -937,8 +945,8 @@ mod tests {
     #[test]
     fn the_least_calls_that_have_room_are_chosen() {
         for size in 0..=1_048_576 {
-            assert_eq!(calls_for(size, false).size, least([8, 24, 64, 256, 1024, 4096, 65_536, 1_048_576], size));
-            assert_eq!(calls_for(size, true).size, least([8, 24, 64, 256, 1024, 4096, 65_536, 1_048_576], size));
+            assert_eq!(calls_for(size, false).size, least([8, 24, 64, 128, 256, 1024, 4096, 65_536, 1_048_576], size));
+            assert_eq!(calls_for(size, true).size, least([8, 24, 64, 128, 256, 1024, 4096, 65_536, 1_048_576], size));
             assert_ne!(calls_for(size, false).write as usize, calls_for(size, true).write as usize);
         }
     }

@@ -36,6 +36,7 @@ aligned! {
     by_32_through_a_copy: 32, 4;
     by_16_in_place: 16, 8;
     by_64_in_place: 64, 8;
+    by_32_of_128_bytes: 32, 16;
     by_64_of_256_bytes: 64, 32;
     by_64_of_4096_bytes: 64, 512;
 }

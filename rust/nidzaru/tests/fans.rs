@@ -33,7 +33,7 @@ macro_rules! at_sizes {
 
 #[test]
 fn each_call_at_each_size() {
-    at_sizes!(1 8 9 24 64 256 1024 4096);
+    at_sizes!(1 8 9 24 64 128 256 1024 4096);
     calls(fan([1_u64; 3]).unwrap(), [1; 3], [2; 3]);
     calls(fan_from::<_, FourSlot, 3>(&'a').unwrap(), 'a', 'b');
 }

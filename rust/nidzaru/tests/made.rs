@@ -105,7 +105,7 @@ macro_rules! at_each_size {
 fn registers() {
     // (records that are copied come to the stack)
     let run = || {
-        at_each_size!(sees_register, 1 8 9 24 25 64 65 256 257 1024 1025 4096 4097 65536 65537 1048576);
+        at_each_size!(sees_register, 1 8 9 24 25 64 65 128 129 256 257 1024 1025 4096 4097 65536 65537 1048576);
     };
     thread::Builder::new().stack_size(32 << 20).spawn(run).unwrap().join().unwrap();
 }

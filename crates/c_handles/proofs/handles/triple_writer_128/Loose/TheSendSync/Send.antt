@@ -1,0 +1,9 @@
+-- made by c/exports.py
+use denote.Param.Send.{IsSend}
+use Rattle.c_handles.proofs.AnyLoose.Send.{crosses}
+use Rattle.c_handles.proofs.Rows.triple_writer_128.{kind}
+use Rattle.c_handles.proofs.side.TripleWriter128.TheSendSync.{the_send as side}
+use Rattle.c_handles.specs.contracts.handles.triple_writer_128.Loose.{the_row}
+
+pub send : IsSend the_row
+send = crosses kind side

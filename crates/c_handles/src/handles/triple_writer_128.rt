@@ -1,0 +1,115 @@
+// made by c/exports.py
+//! What C has of the writing side of a triple buffer with records of 128 bytes.
+ghost use Rattle.std.specs.Prelude.{◌≡◌, ◌≢◌, Bool, true, false};
+ghost use Rattle.c_handles.specs.Loosely.{loosely};
+ghost use Rattle.c_handles.specs.contracts.side.TripleWriter128 as sides;
+ghost use Rattle.c_handles.specs.declared.side.TripleWriter128.{TripleWriter128};
+
+use crate::layout::crosses;
+use crate::parts::Parts;
+use crate::side::TripleWriter128;
+use c_registers::{Hand, Holds};
+use std::alloc::Global;
+use std::marker::Model;
+
+/// A box of the side whose type names no other type, or nothing.
+#[repr(C)]
+pub struct Loose {
+    at: *mut u8,
+    pub ghost full: { Bool },
+    pub ghost side: { TripleWriter128 } by { sides.the_row.coded },
+}
+
+impl Model for Loose {
+    ghost also_owns = { λ l. loosely sides.the_row l.full l.at l.side };
+}
+
+impl Loose {
+    /// Takes the box out.
+    fn take(&mut self, alloc: Global) -> Parts<TripleWriter128, Global>
+        requires { self.old.full ≡ true }
+        ensures { (self.new.full ≡ false) × (result.value ≡ self.old.side) }
+    {
+        let at = self.at;
+        self.at = std::ptr::null_mut();
+        Parts {
+            ptr: at as *mut TripleWriter128,
+            alloc,
+        }
+    }
+
+    /// Puts a box where nothing is.
+    fn put(&mut self, parts: Parts<TripleWriter128, Global>)
+        requires { self.old.full ≡ false }
+        ensures { (self.new.full ≡ true) × (self.new.side ≡ parts.value) }
+    {
+        let Parts { ptr, alloc: _ } = parts;
+        self.at = ptr as *mut u8;
+    }
+}
+
+impl Holds<TripleWriter128> for Loose {
+    ghost use Rattle.std.proofs.Common.{refl};
+
+    ghost full = { λ l. l.full };
+
+    ghost side = { λ l. l.side };
+
+    ghost having = { λ l s. record { at = l.at; full = l.full; side = s } };
+
+    #[inline]
+    fn reach(&mut self) -> &mut TripleWriter128 {
+        unsafe { &mut *(self.at as *mut TripleWriter128) }
+    }
+
+    ghost stays = { λ l s. refl };
+
+    ghost has = { λ l s. refl };
+}
+
+unsafe impl Send for Loose {}
+
+/// The side behind a pointer where `live` is 41, else nothing of this type.
+#[repr(C)]
+pub struct Handle {
+    pub live: u64,
+    pub loose: Loose,
+    ghost held: { live ≡ 41 → loose.full ≡ true },
+    ghost gone: { live ≡ 0 → loose.full ≡ false },
+}
+
+impl Hand<TripleWriter128> for Handle {
+    ghost CODE = { 41 };
+
+    const CODE: u64 = 41;
+
+    ghost live = { λ h. h.live };
+
+    ghost side = { λ h. h.loose.side };
+
+    fn live(&self) -> u64 {
+        self.live
+    }
+
+    fn take(&mut self, alloc: Global) -> Box<TripleWriter128> {
+        self.live = 0;
+        self.loose.take(alloc).into_box()
+    }
+
+    fn put(&mut self, boxed: Box<TripleWriter128>)
+        requires { self.old.live ≡ 0 }
+        ensures { (self.new.live ≡ 41) × (self.new.loose.side ≡ boxed.value) }
+    {
+        self.loose.put(Parts::of(boxed));
+        self.live = 41;
+    }
+}
+
+const _: () = prove!(size_of::<Handle>() == 16);
+
+const _: () = prove!(align_of::<Handle>() == 8);
+
+/// A handle may go to another thread: C rests on this.
+pub fn handles_cross() {
+    crosses::<Handle>();
+}
