@@ -19,14 +19,19 @@ fn orders_are_lawful(rt: HostRuntime) -> Result<(), Fail> {
             {"limit":1,"plans":[["read",[3,3,3]],[[2,2,2]]],
              "steps":[1,1,1,1,1,1,1,1,1,1,0,0,0,0,0,0,0,0,0,0,0,0,0,0,0,0,0,0,0,0]}]}"#,
     ] {
-        match read_schedule(rt.alloc(), document.as_bytes())? {
+        let Ok(document) = read_schedule(rt.alloc(), document.as_bytes()) else {
+            panic!(&rt; "it isn't read");
+        };
+        match document {
             ScheduleDocument::Board {
                 schedule,
                 titled: _titled,
             } => {
-                let report = play_board(rt.alloc(), &schedule)?;
+                let Ok(report) = play_board(rt.alloc(), &schedule) else {
+                    panic!(&rt; "it isn't played");
+                };
                 let verdict = check_order(&report.history, report.order.as_slice());
-                assert_eq!(rt; verdict, Verdict::Lawful);
+                assert!(rt; verdict == Verdict::Lawful);
             }
             _ => panic!(&rt; "another kind"),
         }
