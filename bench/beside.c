@@ -266,6 +266,8 @@ int main(int count, char **given) {
     clock_takes = own_time();
     for (size_t k = 0; k < WAYS; k++) {
         way = &ways[(k + from) % WAYS];
+        /* (beside a busy writer of large records its reader never ends) */
+        if (BYTES > 4096 && !strcmp(way->name, "seqlock")) continue;
         must(fours_make(&none, &four_in, &four_out) || triples_make(&none, &triple_in, &triple_out));
         memset(&locked, 0, sizeof locked);
         for (int n = 0; n < WORDS; n++) words[n] = 0;

@@ -8,6 +8,7 @@ on any.
 """
 
 import collections
+import math
 import os
 import statistics
 import subprocess
@@ -15,7 +16,7 @@ import sys
 import tempfile
 
 HERE = os.path.dirname(os.path.realpath(__file__))
-SIZES = 24, 256, 4096, 65536, 1048576
+SIZES = 24, 256, 4096, 65536
 NAMES = {"four_slot": "four slots", "triple": "triple buffer", "mutex": "mutex", "rwlock": "read-write lock", "seqlock": "sequence lock",
          "urcu": "liburcu"}
 FIGURES = "median", "99.9 %", "99.99 %", "most"
@@ -68,9 +69,9 @@ def table(rows):
 
 def picture(rows, path):
     """A bar from the median to the 99.99th percentile of a read beside a busy writer, by size and way, over a scale of powers of ten."""
-    wide, high, left = 46, 260, 60
+    wide, high, left = 46, 280, 110
     bars = [(size, way) for size in SIZES for way in NAMES if (size, way, "busy", "read") in rows]
-    place = lambda ns: high + 20 - 32 * max(0.0, len(f"{int(ns)}") - 1 + (ns / 10 ** (len(f"{int(ns)}") - 1) - 1) / 9)
+    place = lambda ns: high + 20 - 32 * math.log10(max(1, ns))
     colors = dict(zip(NAMES, ("#1f6feb", "#3fb950", "#d1242f", "#bf8700", "#8250df", "#57606a")))
     parts = [f'<svg xmlns="http://www.w3.org/2000/svg" viewBox="0 0 {left + wide * len(SIZES) * 4 + 20} {high + 80}" font-family="sans-serif" '
              'font-size="12"><rect width="100%" height="100%" fill="#fff"/>']

@@ -1,8 +1,9 @@
-/* Calls of a register or a board for worst.py, which sees each instruction and each access between two marks: a store to `begins`, by the kind
- * of the call, and one to `ends`. Of a register each call is made after each sequence of fewer than DEPTH calls, from a new one on. Of a board
- * each is made by each place right after a write of each other one, in rising order, so that it has news from each and its stamp rises each
- * time; before that stand calls that are drawn. A write is refused where the limit or the last number is used up.
- * -DBYTES=24 [-DDEPTH=5] [-DTRIPLE] [-DPLACES=4] */
+/* Calls of a register or a board for worst.py, which sees each instruction and each access between two marks: a store to `begins`, by the
+ * kind of the call, and one to `ends`. Of a register each call is made after each sequence of fewer than DEPTH calls, from a new one on. Of
+ * a board each is made by each place right after a write of each other one, in rising order, so that it has news from each and its stamp
+ * rises each time, and once more where the last of these writes hasn't said its tag yet, so that a read hands its record on; before that
+ * stand calls that are drawn. A write is refused where the limit or the last number is used up. -DBYTES=24 [-DDEPTH=5] [-DTRIPLE]
+ * [-DPLACES=4] */
 #include <nidzaru.h>
 
 #ifndef PLACES
@@ -11,22 +12,49 @@
 #ifndef DEPTH
 #define DEPTH 5
 #endif
-struct record { uint64_t words[BYTES / 8]; };
+struct record {
+    uint64_t words[BYTES / 8];
+};
 
 enum { WRITE, READ, LOOK, HOLD, LOAN, SINCE, NEWS, REFUSED, KINDS };
 volatile uint64_t begins[8 * KINDS], ends;
-#define MARKED(kind, call, wanted)           \
-    do {                                     \
-        begins[8 * (kind)] = 1;              \
-        const int status_ = (call);          \
-        ends = 1;                            \
-        if (status_ != (wanted)) return 1;   \
+#define MARKED(kind, call, wanted)                                                                                                         \
+    do {                                                                                                                                   \
+        begins[8 * (kind)] = 1;                                                                                                            \
+        const int status_ = (call);                                                                                                        \
+        ends = 1;                                                                                                                          \
+        if (status_ != (wanted)) return 1;                                                                                                 \
     } while (0)
 
 /* (none of what a call gives lies on the stack, which is the call's own here) */
 static _Alignas(64) struct record given, got;
 
 #if PLACES
+/* The library's memory, so that its words can be found. */
+static _Alignas(64) unsigned char memory[1 << 25];
+static size_t used;
+void *malloc(size_t size) {
+    unsigned char *at = memory + used;
+    used += (size + 63) / 64 * 64;
+    return used <= sizeof memory ? at : 0;
+}
+void free(void *at) { (void)at; }
+
+/* Takes back that the process whose write got this tag has said it: the tag's word is a line of its own, with the tag alone. */
+static int unsay(uint64_t tag) {
+    uint64_t *found = 0;
+    for (size_t line = 0; line < used; line += 64) {
+        uint64_t *words = (uint64_t *)(memory + line), others = 0;
+        for (int k = 1; k < 8; k++) others |= words[k];
+        if (words[0] != tag || others) continue;
+        if (found) return 1;
+        found = words;
+    }
+    if (!found) return 1;
+    *found = tag - 1;
+    return 0;
+}
+
 static uint64_t state = 88172645463325252u;
 static uint64_t below(uint64_t bound) {
     state ^= state << 13, state ^= state >> 7, state ^= state << 17;
@@ -70,18 +98,20 @@ static void end_all(void) {
 
 /* Each place's calls on a board with all tags. */
 static int calls(void) {
+    used = 0;
     if (cells_make(&given, places, PLACES)) return 1;
     for (size_t turn = 0; turn < DRAWN; turn++)
         if (call(below(WAYS), below(PLACES))) return 1;
     for (size_t me = 0; me < PLACES; me++)
-        for (uint64_t way = 0; way < WAYS; way++)
-            if (write_others(me) || call(way, me)) return 1;
+        for (uint64_t way = 0; way < 2 * WAYS; way++)
+            if (write_others(me) || (way % 2 && unsay(stamp.tag)) || call(way / 2, me)) return 1;
     end_all();
     return 0;
 }
 
 /* A write of this place where so many writes and one of each other place have used up the tags. */
 static int refuse(size_t me, uint64_t writes) {
+    used = 0;
     if (cells_make_limited(&given, writes + PLACES - 1, places, PLACES)) return 1;
     for (uint64_t n = 0; n < writes; n++)
         if (call(0, below(PLACES)) || call(1, below(PLACES))) return 1;
@@ -92,6 +122,7 @@ static int refuse(size_t me, uint64_t writes) {
 }
 
 static int all_calls(void) {
+    memset(&given, 7, sizeof given);
     for (uint64_t n = 0; n < 4; n++) {
         if (calls()) return 1;
         for (size_t me = 0; me < PLACES; me++)
