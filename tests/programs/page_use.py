@@ -128,7 +128,7 @@ STOPS = (
 # By the parts of a use what is planted in the page: in place of which text, which other, and what has to be said of it.
 PLANTED = {
     "examples": ('["good", "bad"][data.status]', '["good", "good"][data.status]', "is shown as good"),
-    "sentences": ("const SAYS = /^[A-Z]/", "const SAYS = /^(Line|From)/", "of lines_crossed the page says"),
+    "sentences": ("const SAYS = /^[A-Z]/", "const SAYS = /^(Line|From)/", "of lines_limit the page says"),
     "links": ("for (let line = 1; line < number;", "for (let line = 2; line < number;", "line 3 leads to"),
     "by_lines": ("state.named.indexOf(number)", "number", "line 2 leads to"),
     "times": ("drawn = small.text", "drawn = document", "the picture of a log of an hour has"),
