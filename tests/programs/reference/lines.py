@@ -233,7 +233,8 @@ def find_crossed(groups):
 
 def find_limit(log, opening, groups):
     """A refused write, where too few writes can stand before the first that is refused: its own record's, and those of the records that
-    have no refused write and needn't stand behind one that has, or behind one of those behind it, and so on."""
+    have no refused write and needn't stand behind one that has, or behind one of those behind it, and so on. It is one that can be the
+    first: no other record with a refused write has to stand before its own."""
     refused = [it for it in groups.values() if it.refused]
     if opening and opening.refused:
         return "limit", [opening.refused]
@@ -246,7 +247,9 @@ def find_limit(log, opening, groups):
         ended = min(ended, it.ended)
         behind += not it.refused
     most = 1 + len(groups) - len(refused) - behind
-    return ("limit", [refused[0].refused]) if most < log.limit else None
+    least = sorted(refused, key=lambda it: it.ended)[:2]
+    first = next(it for it in refused if all(other is it or other.ended >= it.begun for other in least))
+    return ("limit", [first.refused]) if most < log.limit else None
 
 
 def search(log):
