@@ -9,7 +9,7 @@ use Rattle.read_document.specs.declared.refusal.DocError.{DocError}
 use Rattle.read_document.specs.declared.refusal.DocError.TheVariants.{Law, Missing, NoMemory}
 use Rattle.read_document.specs.declared.key.Key.TheVariants as key
 use Rattle.read_document.specs.Refusals.{◌>>=◌}
-use Rattle.text_lines.specs.Splits.{IsSplit, lines_of}
+use Rattle.text_lines.specs.Splits.{lines_of}
 use Rattle.program_runs.specs.declared.fault.Fault.{Fault}
 use Rattle.lines_log.specs.Faults.{is_end, refused_at}
 use Rattle.read_line.specs.Lines.{Head, head_of}
@@ -48,13 +48,14 @@ ends_last rule true count line is = refl
 ends_last rule false count line is = absurd (never rule count (entry_of line) is)
 
 -- so far a line behind what was read begins what is left
-here_line : (rule : LineRule) (ended : Bool) (body lines : List (List ℕ)) (rest line behind : List ℕ) → IsSplit rest line behind
+here_line : (rule : LineRule) (ended : Bool) (body lines : List (List ℕ)) (rest line behind : List ℕ)
+    → lines_of rest ≡ line ∷ lines_of behind
     → HasRestOf rule ended body lines rest → body ≡ lines ++ line ∷ lines_of behind
-here_line rule false body lines rest line behind split going = going ∙ ap (λ (l : List (List ℕ)). lines ++ l) split.lines
+here_line rule false body lines rest line behind split going = going ∙ ap (λ (l : List (List ℕ)). lines ++ l) split
 here_line rule true body lines rest line behind split over = absurd (none_left rest line behind split over.0)
 
 pub one_more : (opening : List ℕ) (rule : LineRule) (before : Bool) (body : List (List ℕ)) (rest line behind : List ℕ)
-    (old new : Reader) (ended : Bool) → IsBodyReadSoFar opening rule before body rest old → IsSplit rest line behind
+    (old new : Reader) (ended : Bool) → IsBodyReadSoFar opening rule before body rest old → lines_of rest ≡ line ∷ lines_of behind
     → ((lines : List (List ℕ)) → AreExchangesRead opening lines old → ReadsExchange opening lines line (is_end behind) old new ended)
     → rule_of new ≡ rule_of old → IsBodyReadSoFar opening rule ended body behind new
 one_more opening rule before body rest line behind old new ended way split reads same =
@@ -94,7 +95,7 @@ all_read opening rule ended body rest reader none way = record {
     whole true over = over.1
 
 pub at_fault : (opening : List ℕ) (rule : LineRule) (ended : Bool) (body : List (List ℕ)) (rest line behind : List ℕ)
-    (reader : Reader) (f : Fault) → IsBodyReadSoFar opening rule ended body rest reader → IsSplit rest line behind
+    (reader : Reader) (f : Fault) → IsBodyReadSoFar opening rule ended body rest reader → lines_of rest ≡ line ∷ lines_of behind
     → ((lines : List (List ℕ)) → AreExchangesRead opening lines reader → IsExchangeFault (rule_of reader) lines line (is_end behind) f)
     → IsExchangesBodyFault opening rule body f
 at_fault opening rule ended body rest line behind reader f way split wrong = record {
@@ -118,7 +119,7 @@ same_rule head body rule first is same = is ∙ ap (λ (k : Option (List ℕ)). 
 
 -- what was read is the log
 pub assembled : (bytes text first body : List ℕ) (head : Head) (ended : Bool) (reader : Reader) (log : ExchangesLog) →
-    text ≡ text_of bytes → IsSplit text first body → head_of first ≡ Ok head → rule_of reader ≡ rule_in head (lines_of body) →
+    text ≡ text_of bytes → lines_of text ≡ first ∷ lines_of body → head_of first ≡ Ok head → rule_of reader ≡ rule_in head (lines_of body) →
     IsBodyRead head.opening (lines_of body) reader ended → AreExchangesFinished head.limit ended reader log → IsExchangesLog bytes log
 assembled bytes text first body head ended reader log is_text split said same whole finished =
     let records = whole.read.records in
@@ -132,7 +133,7 @@ assembled bytes text first body head ended reader log is_text split said same wh
         body = lines_of body;
         lines = whole.lines;
         head = head;
-        split = ap lines_of (sym is_text) ∙ split.lines;
+        split = ap lines_of (sym is_text) ∙ split;
         said = said;
         ended = ended;
         all = subst (λ (k : LineRule). AreAllExchanges k ended (lines_of body) whole.lines) same whole.all;
@@ -147,7 +148,8 @@ assembled bytes text first body head ended reader log is_text split said same wh
       ended = finished.ended;
     }
 
-pub header_fault : (bytes text first body : List ℕ) (why : DocError) (f : Fault) → text ≡ text_of bytes → IsSplit text first body
+pub header_fault : (bytes text first body : List ℕ) (why : DocError) (f : Fault) → text ≡ text_of bytes
+    → lines_of text ≡ first ∷ lines_of body
     → (why ≢ NoMemory → head_of first ≡ Err why) → f ≡ refused_at 1 why → IsExchangesFault bytes f
 header_fault bytes text first body why f is_text split refusal told = by_cause (is_memory why)
   where
@@ -157,19 +159,19 @@ header_fault bytes text first body why f is_text split refusal told = by_cause (
       header = first;
       body = lines_of body;
       why = why;
-      split = ap lines_of (sym is_text) ∙ split.lines;
+      split = ap lines_of (sym is_text) ∙ split;
       refused = refusal ne;
       told = told;
     })))
 
 pub later_fault : (bytes text first body : List ℕ) (head : Head) (rule : LineRule) (f : Fault) → text ≡ text_of bytes
-    → IsSplit text first body → head_of first ≡ Ok head → rule ≡ rule_in head (lines_of body)
+    → lines_of text ≡ first ∷ lines_of body → head_of first ≡ Ok head → rule ≡ rule_in head (lines_of body)
     → IsExchangesBodyFault head.opening rule (lines_of body) f → IsExchangesFault bytes f
 later_fault bytes text first body head rule f is_text split said same wrong = inr (inr (inr (record {
   header = first;
   body = lines_of body;
   head = head;
-  split = ap lines_of (sym is_text) ∙ split.lines;
+  split = ap lines_of (sym is_text) ∙ split;
   said = said;
   wrong = subst (λ (k : LineRule). IsExchangesBodyFault head.opening k (lines_of body) f) same wrong;
 })))

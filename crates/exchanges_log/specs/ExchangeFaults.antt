@@ -1,6 +1,6 @@
 -- Why lines stand for no log whose records repeat: the first line at fault, and why. The lines before it are all right
 -- (this project's own).
-use Rattle.std.specs.Prelude.{◌≡◌, ◌⊎◌, ℕ, List, [], ◌∷◌, ◌++◌, length, Bool, slice_get, Option, Some, Ok, Err}
+use Rattle.std.specs.Prelude.{◌≡◌, ◌⊎◌, ℕ, List, [], ◌∷◌, ◌++◌, length, Bool, slice_get, Some, Ok, Err}
 use Rattle.object_core.specs.declared.operation.Operation.{Operation}
 use Rattle.object_registers.specs.declared.exchanging.Exchange.{Exchange}
 use Rattle.read_document.specs.declared.refusal.DocError.{DocError}

@@ -1,3 +1,4 @@
 pub mod LowStatus
 pub mod AnswerLemmas
 pub mod RaceLemmas
+pub mod TakenLemmas

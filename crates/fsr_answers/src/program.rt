@@ -1,6 +1,6 @@
 ghost use Rattle.std.specs.Prelude.{◌≡◌, ◌≤◌, ◌+◌};
 ghost use Rattle.program_runs.specs.Answers.{GivesReply};
-ghost use Rattle.program_runs.specs.Run.{CountsTaking, Fails, IsToldBy, Runs, TakesDocument, TellsUnlessTaken};
+ghost use Rattle.program_runs.specs.Run.{Fails, IsToldBy, never, Runs};
 ghost use Rattle.fsr_answers.specs.Answers.{IsFsrAnswer};
 ghost use Rattle.fsr_answers.specs.Run.{is_unbounded};
 ghost use Rattle.program_streams.specs.Stream.{HasRoom};
@@ -9,12 +9,11 @@ use crate::races::run_race;
 use board_live::Posted;
 use cell_contract::{Family, SharedFamily};
 use fsr_check_answers::check;
-use fsr_order_answers::order;
-use fsr_order_input::take_log;
+use fsr_order_answers::{order_bytes, run as run_order};
 use fsr_play_answers::play;
 use fsr_words::Want;
 use history_core::Band;
-use program_runs::{Answer, FSR, Fault, Program, give_answer, take_document};
+use program_runs::{Answer, FSR, Fault, give_answer, take_document};
 use program_streams::{Sink, Source};
 use std::alloc::Global;
 use std::thread::Threads;
@@ -33,30 +32,9 @@ where
 {
     match want {
         Want::Check => check(alloc, bytes),
-        Want::Order(show) => order(alloc, show, bytes),
+        Want::Order(show) => order_bytes(alloc, show, bytes),
         Want::Play => play(alloc, bytes),
         Want::Race => run_race::<R, F>(rt, alloc, bytes),
-    }
-}
-
-/// Takes the input of a command: a log in lines to its end, and any other document as far as a run reads one. Or tells
-/// why it was not read and gives the status that the run ends with.
-fn take_input<I: Source, E: Sink>(
-    alloc: Global,
-    program: &Program,
-    want: Want,
-    input: &mut I,
-    faults: &mut E,
-) -> Result<Vec<u8>, u8>
-    requires input { HasRoom (I.failed input.old) }
-    requires faults { HasRoom (E.failed faults.old) }
-    ensures taken { TakesDocument (is_unbounded want) (I.remaining input.old) (I.remaining input.new) result }
-    ensures counts { CountsTaking (I.failed input.old) (I.failed input.new) result }
-    ensures faults { TellsUnlessTaken (E.failed faults.old) (E.failed faults.new) result }
-{
-    match want {
-        Want::Order(_) => take_log(alloc, program, input, faults),
-        Want::Check | Want::Play | Want::Race => take_document(alloc, program, input, faults),
     }
 }
 
@@ -83,7 +61,35 @@ where
         (O.failed out.new) result }
     ensures faults { E.failed faults.new ≤ E.failed faults.old + 1 }
 {
-    match take_input(alloc, &FSR, want, input, faults) {
+    match want {
+        Want::Order(show) => run_order(alloc, show, input, out, faults),
+        _ => run_document::<F, R, I, O, E>(rt, alloc, want, input, out, faults),
+    }
+}
+
+/// Runs a command that takes a document.
+fn run_document<F: SharedFamily<Posted<Band>>, R: Threads + Sync, I: Source, O: Sink, E: Sink>(
+    rt: &R,
+    alloc: Global,
+    want: Want,
+    input: &mut I,
+    out: &mut O,
+    faults: &mut E,
+) -> u8
+where
+    F::Seat: Send,
+    F::Receipt: Send,
+    requires bounded { is_unbounded want ≡ never }
+    requires input { HasRoom (I.failed input.old) }
+    requires out { HasRoom (O.failed out.old) }
+    requires faults { HasRoom (E.failed faults.old) }
+    ensures runs { Runs (IsToldBy (IsFsrAnswer ⟦<F as Family<Posted<Band>>>⟧ want)) (is_unbounded want)
+        (I.remaining input.old) (I.remaining input.new) (O.contents out.old) (O.contents out.new) result }
+    ensures fails { Fails (I.failed input.old) (I.failed input.new) (O.failed out.old)
+        (O.failed out.new) result }
+    ensures faults { E.failed faults.new ≤ E.failed faults.old + 1 }
+{
+    match take_document(alloc, &FSR, input, faults) {
         Ok(bytes) => {
             let reply = answer::<F, R>(rt, alloc, want, bytes.as_slice());
             give_answer(alloc, &FSR, reply, out, faults)

@@ -4,6 +4,7 @@ ghost use Rattle.fsr_coherent_answers.specs.CoherenceAnswers.{IsCoherenceAnswer,
 ghost use Rattle.fsr_coherent_answers.specs.CoherenceText.{printed, status_of};
 ghost use Rattle.history_coherence.specs.Answers.{AreWrittenOnce, IsCoherence};
 ghost use Rattle.lines_log.specs.Faults.{IsLinesFault};
+ghost use Rattle.packed_text.specs.Words.{text_in};
 ghost use Rattle.program_runs.specs.Answers.{GivesReply, HasAnswerStatus};
 ghost use Rattle.whole_log.specs.WholeLogs.{IsWholeLog};
 
@@ -11,6 +12,7 @@ use crate::text::coherence_text;
 use history_coherence::{Coherence, check_written, search_coherent};
 use history_core::Items;
 use lines_log::{read_lines, refused_at};
+use packed_text::PackedText;
 use program_runs::{Answer, Fault};
 use program_streams::Exit;
 use read_document::{DocError, Key};
@@ -21,74 +23,74 @@ use whole_log::{Unread, WholeLog, read_whole};
 /// The line of the header.
 const HEADER: usize = 1;
 
-/// The answer to the bytes of a log in lines that is asked for its coherence. One whose records repeat is refused.
-pub fn order_coherent(alloc: Global, bytes: &[u8]) -> Result<Answer, Fault>
-    ensures gives { GivesReply (IsCoherenceAnswer bytes.now) result }
+/// The answer to the text of a log in lines that is asked for its coherence. One whose records repeat is refused.
+pub fn order_coherent(alloc: Global, packed: &PackedText) -> Result<Answer, Fault>
+    ensures gives { GivesReply (IsCoherenceAnswer (text_in packed.now)) result }
     ensures status { HasAnswerStatus result }
 {
-    match has_repeats(alloc, bytes) {
+    match has_repeats(alloc, packed) {
         Ok(true) => Err(refused_at(HEADER, DocError::Law(Key::Repeats))),
-        Ok(false) => order_once(alloc, bytes),
+        Ok(false) => order_once(alloc, packed),
         Err(_) => Err(Fault::NoMemory),
     }
 }
 
 /// The answer where records are written once.
-fn order_once(alloc: Global, bytes: &[u8]) -> Result<Answer, Fault>
-    ensures gives { GivesReply (IsOnceAnswer bytes.now) result }
+fn order_once(alloc: Global, packed: &PackedText) -> Result<Answer, Fault>
+    ensures gives { GivesReply (IsOnceAnswer (text_in packed.now)) result }
     ensures status { HasAnswerStatus result }
 {
-    match read_once(alloc, bytes) {
-        Ok(log) => match answer_log(alloc, bytes, &log) {
+    match read_once(alloc, packed) {
+        Ok(log) => match answer_log(alloc, packed, &log) {
             Ok(answer) => Ok(answer),
             Err(_) => Err(Fault::NoMemory),
         },
-        Err(Unread) => Err(fault_of(alloc, bytes)),
+        Err(Unread) => Err(fault_of(alloc, packed)),
     }
 }
 
-/// The log that the bytes stand for, of which each record is written once.
-fn read_once(alloc: Global, bytes: &[u8]) -> Result<WholeLog, Unread>
-    ensures is { IfOk result (IsWholeLog bytes.now) }
+/// The log that the text stands for, of which each record is written once.
+fn read_once(alloc: Global, packed: &PackedText) -> Result<WholeLog, Unread>
+    ensures is { IfOk result (IsWholeLog (text_in packed.now)) }
     ensures once { IfOk result (λ log. AreWrittenOnce log.ops.items) }
 {
-    let log = read_whole(alloc, bytes)?;
+    let log = read_whole(alloc, packed)?;
     match check_written(alloc, log.ops.as_slice()) {
         Ok(()) => Ok(log),
         Err(_) => Err(Unread),
     }
 }
 
-/// Why they stand for none. If they do, memory ran out.
-fn fault_of(alloc: Global, bytes: &[u8]) -> Fault
-    ensures { IsLinesFault bytes.now result }
+/// Why it stands for none. If it does, memory ran out.
+fn fault_of(alloc: Global, packed: &PackedText) -> Fault
+    ensures { IsLinesFault (text_in packed.now) result }
 {
-    match read_lines(alloc, bytes) {
+    match read_lines(alloc, packed) {
         Ok(_) => Fault::NoMemory,
         Err(fault) => fault,
     }
 }
 
 /// What a search finds, printed.
-fn answer_log(alloc: Global, bytes: &[u8], log: &WholeLog) -> Result<Answer, AllocError>
+fn answer_log(alloc: Global, packed: &PackedText, log: &WholeLog) -> Result<Answer, AllocError>
     requires { AreWrittenOnce log.now.ops.items }
-    ensures found { IfOk result (IsFoundCoherence bytes.now log.now) }
+    ensures found { IfOk result (IsFoundCoherence (text_in packed.now) log.now) }
     ensures status { IfOk result (λ answer. HasAnswerStatus (Ok answer)) }
 {
     let found = search_coherent(alloc, log.ops.as_slice())?;
-    print(alloc, bytes, log, &found)
+    print(alloc, packed, log, &found)
 }
 
 /// The lines of what was found, with its status.
 fn print(
     alloc: Global,
-    bytes: &[u8],
+    packed: &PackedText,
     log: &WholeLog,
     found: &Coherence,
 ) -> Result<Answer, AllocError>
-    ensures { IfOk result (λ answer. answer ≡ printed bytes.now log.now found.now) }
+    ensures { IfOk result (λ answer. answer ≡ printed (text_in packed.now) log.now found.now) }
 {
-    let text = coherence_text(alloc, bytes, log, found)?;
+    let text = coherence_text(alloc, packed, log, found)?;
     Ok(Answer {
         text: Items::new(text),
         status: status_of(found),

@@ -1,4 +1,4 @@
-//! The lines of a log.
+//! The lines of a log, by their codes.
 ghost use Rattle.std.specs.Prelude.{◌≡◌, [], map, slice_get, unwrap_or, IfOk};
 ghost use Rattle.print_reasons.specs.Text.{body_of};
 
@@ -6,13 +6,13 @@ use std::alloc::{AllocError, Global};
 use text_lines::split_line;
 
 /// The lines behind the header.
-pub(crate) fn body_lines<'a>(alloc: Global, bytes: &'a [u8]) -> Result<Vec<&'a [u8]>, AllocError>
-    ensures { IfOk result (λ lines. map (λ line. line.now) lines.items ≡ body_of bytes.now) }
+pub(crate) fn body_lines<'a>(alloc: Global, codes: &'a [u8]) -> Result<Vec<&'a [u8]>, AllocError>
+    ensures { IfOk result (λ lines. map (λ line. line.now) lines.items ≡ body_of codes.now) }
 {
     let mut lines = Vec::new(alloc);
-    let mut rest = match split_line(bytes) {
+    let mut rest = match split_line(codes) {
         Some((_, body)) => body,
-        None => bytes,
+        None => codes,
     };
     'lines: while let Some((line, behind)) = split_line(rest) {
         lines.push(line)?;

@@ -1,13 +1,15 @@
 //! A run of `fsr order --coherent` over its streams.
-ghost use Rattle.std.specs.Prelude.{◌≤◌, ◌+◌};
+ghost use Rattle.std.specs.Prelude.{◌≡◌, ◌≤◌, ◌+◌, IfOk};
+ghost use Rattle.program_runs.specs.Answers.{GivesReply, HasAnswerStatus};
 ghost use Rattle.program_runs.specs.Run.{Fails, IsToldBy, Runs};
 ghost use Rattle.read_document.specs.Kinds.{are_lines};
 ghost use Rattle.fsr_coherent_answers.specs.CoherenceAnswers.{IsCoherenceAnswer};
 ghost use Rattle.program_streams.specs.Stream.{HasRoom};
 
 use crate::answer::order_coherent;
-use fsr_order_input::take_log;
-use program_runs::{Answer, Command, FSR, Fault, Program, run_command};
+use fsr_order_input::{LogCommand, LogInput, run_log};
+use packed_text::PackedText;
+use program_runs::{Answer, FSR, Fault};
 use program_streams::{Sink, Source};
 use std::alloc::Global;
 
@@ -15,23 +17,25 @@ use std::alloc::Global;
 #[derive(Clone, Copy)]
 struct Coherent;
 
-impl Command for Coherent {
+impl LogCommand for Coherent {
     ghost is_reply = { λ _ bytes reply. IsCoherenceAnswer bytes reply };
 
-    ghost is_unbounded = { λ _. are_lines };
-
-    fn take<I: Source, E: Sink>(
-        &self,
-        alloc: Global,
-        program: &Program,
-        input: &mut I,
-        faults: &mut E,
-    ) -> Result<Vec<u8>, u8> {
-        take_log(alloc, program, input, faults)
+    fn reply(&self, alloc: Global, log: &LogInput) -> Result<Answer, Fault> {
+        match log {
+            LogInput::Lines(packed) => order_coherent(alloc, packed),
+            LogInput::Document(bytes) => order_document(alloc, bytes.as_slice()),
+        }
     }
+}
 
-    fn reply(&self, alloc: Global, bytes: &[u8]) -> Result<Answer, Fault> {
-        order_coherent(alloc, bytes)
+/// The answer to the bytes of a document that is no log in lines.
+fn order_document(alloc: Global, bytes: &[u8]) -> Result<Answer, Fault>
+    ensures gives { GivesReply (IsCoherenceAnswer bytes.now) result }
+    ensures status { HasAnswerStatus result }
+{
+    match PackedText::of(alloc, bytes) {
+        Ok(packed) => order_coherent(alloc, &packed),
+        Err(_) => Err(Fault::NoMemory),
     }
 }
 
@@ -52,5 +56,5 @@ pub fn run<I: Source, O: Sink, E: Sink>(
         (O.failed out.new) result }
     ensures faults { E.failed faults.new ≤ E.failed faults.old + 1 }
 {
-    run_command(alloc, &FSR, &Coherent, input, out, faults)
+    run_log(alloc, &FSR, &Coherent, input, out, faults)
 }

@@ -5,12 +5,15 @@ ghost use Rattle.fsr_coherent_answers.specs.CoherenceText.{found_text, incoheren
 ghost use Rattle.fsr_coherent_answers.specs.CoherenceText.{sentence_text};
 ghost use Rattle.print_reasons.specs.Sentences.{number_text, unwritten_text};
 ghost use Rattle.print_reasons.specs.Text.{body_of, line_text, write_lines};
+ghost use Rattle.packed_text.specs.Words.{text_in, told};
+ghost use Rattle.print_evidence.specs.Lost.{line_in};
 ghost use Rattle.print_evidence.specs.Together.{shown_lines};
 ghost use Rattle.text_lines.specs.Places.{line_at};
 
 use crate::lines::{body_lines, line_in};
 use crate::places::places_in;
 use history_coherence::{Coherence, Incoherence};
+use packed_text::PackedText;
 use print_reasons::{push_count, push_end, push_little, push_u64, push_words};
 use std::alloc::{AllocError, Global};
 use text_lines::line_of;
@@ -19,24 +22,24 @@ use whole_log::WholeLog;
 /// What was found, and the counts.
 pub(crate) fn coherence_text(
     alloc: Global,
-    bytes: &[u8],
+    packed: &PackedText,
     log: &WholeLog,
     found: &Coherence,
 ) -> Result<Vec<u8>, AllocError>
-    ensures { IfOk result (λ text. text.items ≡ coherence_text bytes.now log.now found.now) }
+    ensures { IfOk result (λ text. text.items ≡ coherence_text (text_in packed.now) log.now found.now) }
 {
-    let mut text = found_text(alloc, bytes, log, found)?;
+    let mut text = found_text(alloc, packed, log, found)?;
     push_counts(&mut text, log)?;
     Ok(text)
 }
 
 fn found_text(
     alloc: Global,
-    bytes: &[u8],
+    packed: &PackedText,
     log: &WholeLog,
     found: &Coherence,
 ) -> Result<Vec<u8>, AllocError>
-    ensures { IfOk result (λ text. text.items ≡ found_text bytes.now log.now found.now) }
+    ensures { IfOk result (λ text. text.items ≡ found_text (text_in packed.now) log.now found.now) }
 {
     match found {
         Coherence::Coherent { .. } => {
@@ -44,21 +47,31 @@ fn found_text(
             push_little(&mut text, log.ops.len(), log.records, log.read)?;
             Ok(text)
         }
-        Coherence::Incoherent { reason } => incoherent_text(alloc, bytes, reason),
+        Coherence::Incoherent { reason } => incoherent_text(alloc, packed, reason),
     }
 }
 
 /// A reason by its lines, these lines as they stand in the log, and a sentence.
 #[tactic(auto, using(std::proofs::Common::append_assoc))]
-fn incoherent_text(alloc: Global, bytes: &[u8], reason: &Incoherence) -> Result<Vec<u8>, AllocError>
-    ensures { IfOk result (λ text. text.items ≡ incoherent_text bytes.now reason.now) }
+fn incoherent_text(
+    alloc: Global,
+    packed: &PackedText,
+    reason: &Incoherence,
+) -> Result<Vec<u8>, AllocError>
+    ensures { IfOk result (λ text. text.items ≡ incoherent_text (text_in packed.now) reason.now) }
 {
     let places = places_in(alloc, reason)?;
-    let lines = body_lines(alloc, bytes)?;
+    let lines = body_lines(alloc, packed.codes.as_slice())?;
     let mut text = Vec::from_slice(alloc, b"incoherent ")?;
     push_words(&mut text, name_of(reason))?;
     push_named(&mut text, places.as_slice())?;
-    push_shown(&mut text, lines.as_slice(), places.as_slice())?;
+    push_shown(
+        alloc,
+        &mut text,
+        packed,
+        lines.as_slice(),
+        places.as_slice(),
+    )?;
     push_sentence(&mut text, reason)?;
     Ok(text)
 }
@@ -91,15 +104,36 @@ fn push_numbers(text: &mut Vec<u8>, places: &[usize]) -> Result<(), AllocError>
     Ok(())
 }
 
-/// The lines as they stand in the log, each behind its number.
-fn push_shown(text: &mut Vec<u8>, lines: &[&[u8]], places: &[usize]) -> Result<(), AllocError>
-    ensures { OnOk result ((bytes : List ℕ) → map (λ line. line.now) lines.now ≡ body_of bytes →
-        text.new.items ≡ text.old.items ++ shown_lines bytes places.now) }
+/// The lines as they stand in the log, each behind its number. These are the codes of all of them.
+fn push_shown(
+    alloc: Global,
+    text: &mut Vec<u8>,
+    packed: &PackedText,
+    lines: &[&[u8]],
+    places: &[usize],
+) -> Result<(), AllocError>
+    ensures { OnOk result ((codes : List ℕ) → map (λ line. line.now) lines.now ≡ body_of codes →
+        text.new.items ≡ text.old.items ++ shown_lines (told packed.now.packed codes) places.now) }
 {
     for place in places {
-        push_line(text, *place, line_in(lines, *place))?;
+        push_shown_line(alloc, text, packed, lines, *place)?;
     }
     Ok(())
+}
+
+fn push_shown_line(
+    alloc: Global,
+    text: &mut Vec<u8>,
+    packed: &PackedText,
+    lines: &[&[u8]],
+    place: usize,
+) -> Result<(), AllocError>
+    ensures { OnOk result ((codes : List ℕ) → map (λ line. line.now) lines.now ≡ body_of codes →
+        text.new.items ≡ text.old.items ++ line_text place (line_in (told packed.now.packed codes) place)) }
+{
+    let mut line = Vec::new(alloc);
+    packed.tell(&mut line, line_in(lines, place))?;
+    push_line(text, place, line.as_slice())
 }
 
 #[tactic(auto, using(std::proofs::Common::append_assoc))]

@@ -5,10 +5,12 @@ ghost use Rattle.history_thinning.specs.Answers.{IsThinnedAnswer, IsOfKept};
 ghost use Rattle.history_thinning.specs.Thinnings.{IsThinnedLog};
 ghost use Rattle.fsr_once_answers.specs.LinesAnswers.{IsLinesAnswer, exit_of, lawful_exit, printed, status_of};
 ghost use Rattle.thinned_search.specs.Limits.{IsCounted};
+ghost use Rattle.packed_text.specs.Words.{text_in};
 
 use history_core::{Items, LogAnswer};
 use kept_lines::LinesLog;
 use lines_log::read_lines;
+use packed_text::PackedText;
 use print_once::{lines_text, shows_little};
 use program_runs::{Answer, Fault, Show};
 use program_streams::Exit;
@@ -16,29 +18,34 @@ use std::alloc::{AllocError, Global};
 use thinned_search::{counted, search_thinned};
 
 /// The answer of the command `order` to the bytes of a log in lines, with the writes in order if that is asked for.
-pub fn order_lines(alloc: Global, show: Show, bytes: &[u8]) -> Result<Answer, Fault>
-    ensures gives { GivesReply (IsLinesAnswer show bytes.now) result }
+pub fn order_lines(alloc: Global, show: Show, packed: &PackedText) -> Result<Answer, Fault>
+    ensures gives { GivesReply (IsLinesAnswer show (text_in packed.now)) result }
     ensures status { HasAnswerStatus result }
 {
-    let log = match read_lines(alloc, bytes) {
+    let log = match read_lines(alloc, packed) {
         Ok(log) => log,
         Err(fault) => return Err(fault),
     };
-    match answer_log(alloc, show, bytes, &log) {
+    match answer_log(alloc, show, packed, &log) {
         Ok(answer) => Ok(answer),
         Err(_) => Err(Fault::NoMemory),
     }
 }
 
 /// What a search finds, printed.
-fn answer_log(alloc: Global, show: Show, bytes: &[u8], log: &LinesLog) -> Result<Answer, AllocError>
+fn answer_log(
+    alloc: Global,
+    show: Show,
+    packed: &PackedText,
+    log: &LinesLog,
+) -> Result<Answer, AllocError>
     ensures { IfOk result (λ answer. (limit : ℕ) (ops : List (Op ℕ)) → IsThinnedLog limit ops log.now.thinned →
         (found : LogAnswer) × (most : ℕ) × IsThinnedAnswer limit ops found × IsOfKept log.now.thinned.places found ×
-        IsCounted limit ops found most × (answer ≡ printed show bytes.now log.now most found)) }
+        IsCounted limit ops found most × (answer ≡ printed show (text_in packed.now) log.now most found)) }
 {
     let found = search_log(alloc, log)?;
     let most = counted(alloc, &log.thinned, &found)?;
-    print(alloc, show, bytes, log, most, &found)
+    print(alloc, show, packed, log, most, &found)
 }
 
 /// What one of its orders is, or the reason why there is none.
@@ -56,14 +63,14 @@ pub fn search_log(alloc: Global, log: &LinesLog) -> Result<LogAnswer, AllocError
 fn print(
     alloc: Global,
     show: Show,
-    bytes: &[u8],
+    packed: &PackedText,
     log: &LinesLog,
     most: u64,
     found: &LogAnswer,
 ) -> Result<Answer, AllocError>
-    ensures { IfOk result (λ answer. answer ≡ printed show bytes.now log.now most found.now) }
+    ensures { IfOk result (λ answer. answer ≡ printed show (text_in packed.now) log.now most found.now) }
 {
-    let text = lines_text(alloc, show.order, bytes, log, most, found)?;
+    let text = lines_text(alloc, show.order, packed, log, most, found)?;
     let status = status_of(show.strict, log, found);
     Ok(Answer {
         text: Items::new(text),

@@ -5,6 +5,7 @@ ghost use Rattle.lines_log.specs.Keys.{IsKeysLog};
 ghost use Rattle.fsr_once_answers.specs.KeysAnswers.{IsKeysAnswer, IsKeysVerdict, keys_exit, keys_status, printed};
 ghost use Rattle.fsr_once_answers.specs.KeysAnswers.{shown};
 ghost use Rattle.print_once.specs.declared.keys_verdict.KeysVerdict.{KeysVerdict};
+ghost use Rattle.packed_text.specs.Words.{text_in};
 
 use crate::answer::lawful_exit;
 use crate::keys_small::small_keys;
@@ -12,6 +13,7 @@ use crate::keys_verdict::judge_keys;
 use history_core::Items;
 use kept_lines::KeysLog;
 use lines_log::read_keys;
+use packed_text::PackedText;
 use print_once::{KeysVerdict, added_up, keys_show_little, keys_text};
 use program_runs::{Answer, Fault, Show};
 use program_streams::Exit;
@@ -19,38 +21,44 @@ use std::alloc::{AllocError, Global};
 
 /// The answer of the command `order` to the bytes of a log in lines whose operations have several keys: whether each
 /// has a lawful order, or the first that has none, with what is asked for of it.
-pub fn order_keys(alloc: Global, show: Show, bytes: &[u8]) -> Result<Answer, Fault>
-    ensures { GivesReply (IsKeysAnswer show bytes.now) result }
+pub fn order_keys(alloc: Global, show: Show, packed: &PackedText) -> Result<Answer, Fault>
+    ensures { GivesReply (IsKeysAnswer show (text_in packed.now)) result }
 {
-    let log = match read_keys(alloc, bytes) {
+    let log = match read_keys(alloc, packed) {
         Ok(log) => log,
         Err(fault) => return Err(fault),
     };
-    match answer_keys(alloc, show, bytes, &log) {
+    match answer_keys(alloc, show, packed, &log) {
         Ok(answer) => Ok(answer),
         Err(_) => Err(Fault::NoMemory),
     }
 }
 
 /// The verdict on each key, printed.
-fn answer_keys(alloc: Global, show: Show, bytes: &[u8], log: &KeysLog) -> Result<Answer, AllocError>
+fn answer_keys(
+    alloc: Global,
+    show: Show,
+    packed: &PackedText,
+    log: &KeysLog,
+) -> Result<Answer, AllocError>
     ensures { IfOk result (λ answer. (text : List ℕ) (is : IsKeysLog text log.now) →
-        (verdict : KeysVerdict) × IsKeysVerdict is verdict × (answer ≡ printed show bytes.now log.now verdict)) }
+        (verdict : KeysVerdict) × IsKeysVerdict is verdict
+        × (answer ≡ printed show (text_in packed.now) log.now verdict)) }
 {
     let verdict = judge_keys(alloc, log)?;
-    print(alloc, show, bytes, log, &verdict)
+    print(alloc, show, packed, log, &verdict)
 }
 
 fn print(
     alloc: Global,
     show: Show,
-    bytes: &[u8],
+    packed: &PackedText,
     log: &KeysLog,
     verdict: &KeysVerdict,
 ) -> Result<Answer, AllocError>
-    ensures { IfOk result (λ answer. answer ≡ printed show bytes.now log.now verdict.now) }
+    ensures { IfOk result (λ answer. answer ≡ printed show (text_in packed.now) log.now verdict.now) }
 {
-    let text = shown(alloc, show, bytes, log, verdict)?;
+    let text = shown(alloc, show, packed, log, verdict)?;
     let status = keys_status(show.strict, log, verdict)?;
     Ok(Answer {
         text: Items::new(text),
@@ -61,16 +69,16 @@ fn print(
 fn shown(
     alloc: Global,
     show: Show,
-    bytes: &[u8],
+    packed: &PackedText,
     log: &KeysLog,
     verdict: &KeysVerdict,
 ) -> Result<Vec<u8>, AllocError>
-    ensures { IfOk result (λ text. text.items ≡ shown show show.small bytes.now log.now verdict.now) }
+    ensures { IfOk result (λ text. text.items ≡ shown show show.small (text_in packed.now) log.now verdict.now) }
 {
     if show.small {
         small_keys(alloc, log, verdict)
     } else {
-        keys_text(alloc, show.order, bytes, log, verdict)
+        keys_text(alloc, show.order, packed, log, verdict)
     }
 }
 

@@ -3,40 +3,42 @@ ghost use Rattle.std.specs.Prelude.{◌≡◌};
 ghost use Rattle.program_runs.specs.Answers.{GivesReply};
 ghost use Rattle.read_line.specs.Repeats.{has_repeats};
 ghost use Rattle.fsr_once_answers.specs.Once.{IsAnswerOnce, IsOnceInLines, IsOtherDocument, other_fault};
+ghost use Rattle.fsr_order_input.specs.Inputs.{input_text, IsByKind};
+ghost use Rattle.packed_text.specs.Words.{text_in};
 
 use crate::by_keys::order_by_keys;
+use fsr_order_input::LogInput;
 use lines_log::refused_at;
+use packed_text::PackedText;
 use program_runs::{Answer, Fault, LinesFault, Show};
-use read_document::{DocError, Key, are_lines};
+use read_document::{DocError, Key};
 use read_line::{has_repeats, read_header};
 use std::alloc::Global;
 
 /// The line of the header.
 const HEADER: usize = 1;
 
-/// The answer of the command `order` to the bytes of a log in lines that writes each record once: a lawful order of it,
-/// or the reason why there is none. A log in lines is told by its first line, and refused if its records repeat; any
-/// other document is refused for its kind.
-pub fn order_once(alloc: Global, show: Show, bytes: &[u8]) -> Result<Answer, Fault>
-    ensures { GivesReply (IsAnswerOnce show bytes.now) result }
+/// The answer of the command `order` to a log in lines that writes each record once: a lawful order of it, or the
+/// reason why there is none. It is refused if its records repeat, and any other document for its kind.
+pub fn order_once(alloc: Global, show: Show, log: &LogInput) -> Result<Answer, Fault>
+    requires { IsByKind log.now }
+    ensures { GivesReply (IsAnswerOnce show (input_text log.now)) result }
 {
-    let in_lines = are_lines(alloc, bytes)?;
-    if in_lines {
-        order_in_lines(alloc, show, bytes)
-    } else {
-        refuse_other(alloc, bytes)
+    match log {
+        LogInput::Lines(packed) => order_in_lines(alloc, show, packed),
+        LogInput::Document(bytes) => refuse_other(alloc, bytes.as_slice()),
     }
 }
 
-/// The answer to the bytes of a log in lines.
-fn order_in_lines(alloc: Global, show: Show, bytes: &[u8]) -> Result<Answer, Fault>
-    ensures { GivesReply (IsOnceInLines show (has_repeats bytes.now) bytes.now) result }
+/// The answer to the text of a log in lines.
+fn order_in_lines(alloc: Global, show: Show, packed: &PackedText) -> Result<Answer, Fault>
+    ensures { GivesReply (IsOnceInLines show (has_repeats (text_in packed.now)) (text_in packed.now)) result }
 {
-    let repeats = has_repeats(alloc, bytes)?;
+    let repeats = has_repeats(alloc, packed)?;
     if repeats {
         Err(refused_at(HEADER, DocError::Law(Key::Repeats)))
     } else {
-        order_by_keys(alloc, show, bytes)
+        order_by_keys(alloc, show, packed)
     }
 }
 

@@ -5,8 +5,8 @@ ghost use Rattle.fsr_once_answers.specs.Once.{IsAnswerOnce};
 ghost use Rattle.program_streams.specs.Stream.{HasRoom};
 
 use crate::once::order_once;
-use fsr_order_input::take_log;
-use program_runs::{Answer, Command, FSR, Fault, Program, Show, run_command};
+use fsr_order_input::{LogCommand, LogInput, run_log};
+use program_runs::{Answer, FSR, Fault, Show};
 use program_streams::{Sink, Source};
 use std::alloc::Global;
 
@@ -14,23 +14,11 @@ use std::alloc::Global;
 #[derive(Clone, Copy)]
 struct Once(Show);
 
-impl Command for Once {
+impl LogCommand for Once {
     ghost is_reply = { λ self bytes reply. IsAnswerOnce self.0 bytes reply };
 
-    ghost is_unbounded = { λ _. are_lines };
-
-    fn take<I: Source, E: Sink>(
-        &self,
-        alloc: Global,
-        program: &Program,
-        input: &mut I,
-        faults: &mut E,
-    ) -> Result<Vec<u8>, u8> {
-        take_log(alloc, program, input, faults)
-    }
-
-    fn reply(&self, alloc: Global, bytes: &[u8]) -> Result<Answer, Fault> {
-        order_once(alloc, self.0, bytes)
+    fn reply(&self, alloc: Global, log: &LogInput) -> Result<Answer, Fault> {
+        order_once(alloc, self.0, log)
     }
 }
 
@@ -52,5 +40,5 @@ pub fn run<I: Source, O: Sink, E: Sink>(
         (O.failed out.new) result }
     ensures faults { E.failed faults.new ≤ E.failed faults.old + 1 }
 {
-    run_command(alloc, &FSR, &Once(show), input, out, faults)
+    run_log(alloc, &FSR, &Once(show), input, out, faults)
 }

@@ -5,20 +5,22 @@ ghost use Rattle.history_core.specs.declared.history.Op.{Op};
 ghost use Rattle.history_thinning.specs.Answers.{IsThinnedAnswer, IsOfKept};
 ghost use Rattle.history_thinning.specs.Thinnings.{IsThinnedLog};
 ghost use Rattle.fsr_once_answers.specs.SmallAnswers.{IsSmallAnswer, printed};
+ghost use Rattle.packed_text.specs.Words.{text_in};
 
 use crate::{search_log, status_of};
 use history_core::{Items, LogAnswer};
 use kept_lines::LinesLog;
 use lines_log::read_lines;
+use packed_text::PackedText;
 use program_runs::{Answer, Fault};
 use small_log::small_text;
 use std::alloc::{AllocError, Global};
 
 /// The answer of the command `order` to the bytes of a log in lines, of which a small log is asked for.
-pub fn order_small(alloc: Global, strict: bool, bytes: &[u8]) -> Result<Answer, Fault>
-    ensures { GivesReply (IsSmallAnswer strict bytes.now) result }
+pub fn order_small(alloc: Global, strict: bool, packed: &PackedText) -> Result<Answer, Fault>
+    ensures { GivesReply (IsSmallAnswer strict (text_in packed.now)) result }
 {
-    let log = match read_lines(alloc, bytes) {
+    let log = match read_lines(alloc, packed) {
         Ok(log) => log,
         Err(fault) => return Err(fault),
     };

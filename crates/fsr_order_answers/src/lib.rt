@@ -5,5 +5,5 @@
 mod logs;
 mod program;
 
-pub use logs::order;
+pub use logs::{order, order_bytes};
 pub use program::run;

@@ -4,12 +4,14 @@ ghost use Rattle.fsr_repeats_answers.specs.ExchangesText.{begin_of, counts_text,
 ghost use Rattle.fsr_repeats_answers.specs.ExchangesText.{limited_text, shown_text, unlawful_text, unsourced_text};
 ghost use Rattle.print_evidence.specs.Limited.{limited_lines};
 ghost use Rattle.print_evidence.specs.Together.{together_text};
+ghost use Rattle.packed_text.specs.Words.{text_in};
 
 use crate::evidence::Evidence;
 use exchanges_log::ExchangesLog;
 use object_core::Operation;
 use object_sources::Unsourced;
 use object_window::Window;
+use packed_text::PackedText;
 use print_evidence::{early_lines, limited_lines, lost_text, together_text, unwritten_lines};
 use print_reasons::{push_count, push_end};
 use std::alloc::{AllocError, Global};
@@ -25,14 +27,14 @@ pub(crate) fn lawful_text(alloc: Global, log: &ExchangesLog) -> Result<Vec<u8>, 
 /// What shows that the log is lost, and the counts.
 pub(crate) fn unlawful_text(
     alloc: Global,
-    bytes: &[u8],
+    packed: &PackedText,
     log: &ExchangesLog,
     place: usize,
     evidence: &Evidence,
 ) -> Result<Vec<u8>, AllocError>
-    ensures { IfOk result (λ text. text.items ≡ unlawful_text bytes.now log.now place evidence.now) }
+    ensures { IfOk result (λ text. text.items ≡ unlawful_text (text_in packed.now) log.now place evidence.now) }
 {
-    let mut text = shown_text(alloc, bytes, log, place, evidence)?;
+    let mut text = shown_text(alloc, packed, log, place, evidence)?;
     push_counts(&mut text, log)?;
     Ok(text)
 }
@@ -40,65 +42,65 @@ pub(crate) fn unlawful_text(
 /// That the log is lost by this limit, and the counts.
 pub(crate) fn limited_text(
     alloc: Global,
-    bytes: &[u8],
+    packed: &PackedText,
     log: &ExchangesLog,
     place: usize,
     limit: u64,
 ) -> Result<Vec<u8>, AllocError>
-    ensures { IfOk result (λ text. text.items ≡ limited_text bytes.now log.now place limit) }
+    ensures { IfOk result (λ text. text.items ≡ limited_text (text_in packed.now) log.now place limit) }
 {
-    let mut text = lost_by_limit(alloc, bytes, log, place, limit)?;
+    let mut text = lost_by_limit(alloc, packed, log, place, limit)?;
     push_counts(&mut text, log)?;
     Ok(text)
 }
 
 fn lost_by_limit(
     alloc: Global,
-    bytes: &[u8],
+    packed: &PackedText,
     log: &ExchangesLog,
     place: usize,
     limit: u64,
 ) -> Result<Vec<u8>, AllocError>
     ensures { IfOk result (λ text. text.items
-        ≡ limited_lines bytes.now place (end_of log.now.ops.items place) limit) }
+        ≡ limited_lines (text_in packed.now) place (end_of log.now.ops.items place) limit) }
 {
     let ops = log.ops.as_slice();
-    limited_lines(alloc, bytes, place, end_of(ops, place), limit)
+    limited_lines(alloc, packed, place, end_of(ops, place), limit)
 }
 
 /// What shows that the log is lost, or else the line at whose end it is.
 fn shown_text(
     alloc: Global,
-    bytes: &[u8],
+    packed: &PackedText,
     log: &ExchangesLog,
     place: usize,
     evidence: &Evidence,
 ) -> Result<Vec<u8>, AllocError>
-    ensures { IfOk result (λ text. text.items ≡ shown_text bytes.now log.now place evidence.now) }
+    ensures { IfOk result (λ text. text.items ≡ shown_text (text_in packed.now) log.now place evidence.now) }
 {
     match evidence {
-        Evidence::NoSource(why) => unsourced_text(alloc, bytes, log, place, *why),
-        Evidence::Together(window) => window_text(alloc, bytes, window),
-        Evidence::Nothing => lost_text(alloc, bytes, place, end_of(log.ops.as_slice(), place)),
+        Evidence::NoSource(why) => unsourced_text(alloc, packed, log, place, *why),
+        Evidence::Together(window) => window_text(alloc, packed, window),
+        Evidence::Nothing => lost_text(alloc, packed, place, end_of(log.ops.as_slice(), place)),
     }
 }
 
 /// Why the operation at a place can't have found its record.
 fn unsourced_text(
     alloc: Global,
-    bytes: &[u8],
+    packed: &PackedText,
     log: &ExchangesLog,
     place: usize,
     why: Unsourced,
 ) -> Result<Vec<u8>, AllocError>
-    ensures { IfOk result (λ text. text.items ≡ unsourced_text bytes.now log.now place why) }
+    ensures { IfOk result (λ text. text.items ≡ unsourced_text (text_in packed.now) log.now place why) }
 {
     let ops = log.ops.as_slice();
     match why {
-        Unsourced::Unwritten => unwritten_lines(alloc, bytes, place),
+        Unsourced::Unwritten => unwritten_lines(alloc, packed, place),
         Unsourced::Early { source } => early_lines(
             alloc,
-            bytes,
+            packed,
             place,
             source,
             end_of(ops, place),
@@ -107,12 +109,12 @@ fn unsourced_text(
     }
 }
 
-fn window_text(alloc: Global, bytes: &[u8], window: &Window) -> Result<Vec<u8>, AllocError>
+fn window_text(alloc: Global, packed: &PackedText, window: &Window) -> Result<Vec<u8>, AllocError>
     ensures { IfOk result (λ text. text.items
-        ≡ together_text bytes.now window.now.first window.now.last window.now.places.items) }
+        ≡ together_text (text_in packed.now) window.now.first window.now.last window.now.places.items) }
 {
     let places = window.places.as_slice();
-    together_text(alloc, bytes, window.first, window.last, places)
+    together_text(alloc, packed, window.first, window.last, places)
 }
 
 /// When the operation at a place ended.

@@ -9,7 +9,7 @@ use Rattle.read_document.specs.declared.key.Key.TheVariants as key
 use Rattle.history_core.specs.declared.history.Op.{Op}
 use Rattle.read_document.specs.Refusals.{◌>>=◌}
 use Rattle.program_runs.specs.declared.fault.Fault.{Fault}
-use Rattle.text_lines.specs.Splits.{in_front, IsSplit, lines_of}
+use Rattle.text_lines.specs.Splits.{in_front, lines_of}
 use Rattle.read_line.specs.Lines.{done, LineEntry, entry_of, Head, head_of, operation}
 use Rattle.lines_log.specs.Faults.{IsBodyFault, is_end, is_last, IsLineFault}
 use Rattle.lines_log.specs.Logs.{AreAll, AreLines, first_key, IsLinesLog, is_refused, judged, judged_line, LineRule, rule_in, same_key}
@@ -61,19 +61,19 @@ pub begun : (opening : List ℕ) (body : List ℕ) (reader : Reader) → AreRead
     → IsPartlyRead opening (rule_of reader) false (lines_of body) body reader
 begun opening body reader read = record { lines = []; read = read; limits = refl; left = refl }
 
-pub none_left : (rest line behind : List ℕ) → IsSplit rest line behind → rest ≡ [] → ⊥
-none_left rest line behind split none =
-    let empty : length rest ≡ 0 = ap length none in omega (arith, empty, split.shorter)
+pub none_left : (rest line behind : List ℕ) → lines_of rest ≡ line ∷ lines_of behind → rest ≡ [] → ⊥
+none_left [] line behind split none = cc
+none_left (x ∷ xs) line behind split none = cc
 
 pub one_more : (opening : List ℕ) (rule : LineRule) (before : Bool) (body : List (List ℕ)) (rest line behind : List ℕ) (old new : Reader)
-    (ended : Bool) → IsPartlyRead opening rule before body rest old → IsSplit rest line behind
+    (ended : Bool) → IsPartlyRead opening rule before body rest old → lines_of rest ≡ line ∷ lines_of behind
     → ((lines : List (List ℕ)) → AreRead opening lines old → ReadsLine opening lines line (is_end behind) old new ended)
     → rule_of new ≡ rule_of old → IsPartlyRead opening rule ended body behind new
 one_more opening rule before body rest line behind old new ended way split reads same =
     by_line ended (at_line before way.left) (reads way.lines way.read)
   where
     at_line : (b : Bool) → HasRest rule b body way.lines rest → body ≡ way.lines ++ line ∷ lines_of behind
-    at_line false going = going ∙ ap (λ (l : List (List ℕ)). way.lines ++ l) split.lines
+    at_line false going = going ∙ ap (λ (l : List (List ℕ)). way.lines ++ l) split
     at_line true over = absurd (none_left rest line behind split over.0)
 
     by_line : (b : Bool) → body ≡ way.lines ++ line ∷ lines_of behind → ReadsLine opening way.lines line (is_end behind) old new b
@@ -111,13 +111,13 @@ all_read opening rule ended body rest reader none way = record {
 
 pub at_fault : (opening : List ℕ) (rule : LineRule) (ended : Bool) (body : List (List ℕ)) (rest line behind : List ℕ)
     (reader : Reader) (f : Fault)
-    → IsPartlyRead opening rule ended body rest reader → IsSplit rest line behind
+    → IsPartlyRead opening rule ended body rest reader → lines_of rest ≡ line ∷ lines_of behind
     → ((lines : List (List ℕ)) → AreRead opening lines reader → IsLineFault opening (rule_of reader) lines line (is_end behind) f)
     → IsBodyFault opening rule body f
 at_fault opening rule ended body rest line behind reader f way split wrong = fill (at_line ended way.left)
   where
     at_line : (b : Bool) → HasRest rule b body way.lines rest → body ≡ way.lines ++ line ∷ lines_of behind
-    at_line false going = going ∙ ap (λ (l : List (List ℕ)). way.lines ++ l) split.lines
+    at_line false going = going ∙ ap (λ (l : List (List ℕ)). way.lines ++ l) split
     at_line true over = absurd (none_left rest line behind split over.0)
 
     fill : body ≡ way.lines ++ line ∷ lines_of behind → IsBodyFault opening rule body f
@@ -150,7 +150,7 @@ same_rule head body key rule is first =
 
 -- what was read is the log
 pub assembled : (bytes text first body : List ℕ) (head : Head) (limit : ℕ) (ended : Bool) (reader : Reader) (log : LinesLog)
-    → text ≡ text_of bytes → IsSplit text first body → head_of first ≡ Ok head → rule_of reader ≡ rule_in head (lines_of body)
+    → text ≡ text_of bytes → lines_of text ≡ first ∷ lines_of body → head_of first ≡ Ok head → rule_of reader ≡ rule_in head (lines_of body)
     → IsReadWhole head.opening (lines_of body) reader ended → limit ≡ unwrap_or head.limit 1 → IsFinished limit ended reader log
     → (ops : List (Op ℕ)) × IsLinesLog bytes ops log
 assembled bytes text first body head limit ended reader log is_text split said rule whole limit_is finished =
@@ -164,7 +164,7 @@ assembled bytes text first body head limit ended reader log is_text split said r
           header = first;
           body = lines_of body;
           lines = whole.lines;
-          split = ap lines_of (sym is_text) ∙ split.lines;
+          split = ap lines_of (sym is_text) ∙ split;
           said = said;
           ended = ended;
           all = subst (λ (b : LineRule). AreAll b ended (lines_of body) whole.lines) rule whole.all;

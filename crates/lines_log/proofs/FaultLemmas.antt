@@ -1,9 +1,9 @@
 -- The header or a later line is at fault.
-use Rattle.std.proofs.Common.{◌≡◌, ◌≢◌, ◌⊎◌, inl, inr, ℕ, List, Ok, Err, refl, ap, sym, ◌∙◌, subst}
+use Rattle.std.proofs.Common.{◌≡◌, ◌≢◌, ◌⊎◌, ◌∷◌, inl, inr, ℕ, List, Ok, Err, refl, ap, sym, ◌∙◌, subst}
 use Rattle.read_document.specs.declared.refusal.DocError.{DocError}
 use Rattle.read_document.specs.declared.refusal.DocError.TheVariants.{Kind, Law, Long, Missing, NoMemory, NotJson, Range, Shape}
 use Rattle.program_runs.specs.declared.fault.Fault.{Fault}
-use Rattle.text_lines.specs.Splits.{IsSplit, lines_of}
+use Rattle.text_lines.specs.Splits.{lines_of}
 use Rattle.read_line.specs.Lines.{Head, head_of}
 use Rattle.lines_log.specs.Faults.{IsBodyFault, IsLinesFault, refused_at}
 use Rattle.lines_log.specs.Logs.{LineRule, rule_in, text_of}
@@ -18,7 +18,8 @@ is_memory (Range key) = inr (λ e. cc)
 is_memory (Law key) = inr (λ e. cc)
 is_memory NoMemory = inl refl
 
-pub header_fault : (bytes text first body : List ℕ) (why : DocError) (f : Fault) → text ≡ text_of bytes → IsSplit text first body
+pub header_fault : (bytes text first body : List ℕ) (why : DocError) (f : Fault) → text ≡ text_of bytes
+    → lines_of text ≡ first ∷ lines_of body
     → (why ≢ NoMemory → head_of first ≡ Err why) → f ≡ refused_at 1 why → IsLinesFault bytes f
 header_fault bytes text first body why f is_text split refused told = by_cause (is_memory why)
   where
@@ -28,19 +29,19 @@ header_fault bytes text first body why f is_text split refused told = by_cause (
       header = first;
       body = lines_of body;
       why = why;
-      split = ap lines_of (sym is_text) ∙ split.lines;
+      split = ap lines_of (sym is_text) ∙ split;
       refused = refused ne;
       told = told;
     })))
 
 pub later_fault : (bytes text first body : List ℕ) (head : Head) (rule : LineRule) (f : Fault) → text ≡ text_of bytes
-    → IsSplit text first body → head_of first ≡ Ok head → rule ≡ rule_in head (lines_of body)
+    → lines_of text ≡ first ∷ lines_of body → head_of first ≡ Ok head → rule ≡ rule_in head (lines_of body)
     → IsBodyFault head.opening rule (lines_of body) f → IsLinesFault bytes f
 later_fault bytes text first body head rule f is_text split said limits wrong = inr (inr (inr (record {
   header = first;
   body = lines_of body;
   head = head;
-  split = ap lines_of (sym is_text) ∙ split.lines;
+  split = ap lines_of (sym is_text) ∙ split;
   said = said;
   wrong = subst (λ (b : LineRule). IsBodyFault head.opening b (lines_of body) f) limits wrong;
 })))

@@ -11,7 +11,7 @@ use Rattle.history_thinning.specs.Thinnings.{IsThinnedLog}
 use Rattle.program_runs.specs.declared.fault.Fault.{Fault}
 use Rattle.read_document.specs.declared.refusal.DocError.{DocError}
 use Rattle.read_document.specs.declared.refusal.DocError.TheVariants.{NoMemory}
-use Rattle.text_lines.specs.Splits.{IsSplit, lines_of}
+use Rattle.text_lines.specs.Splits.{lines_of}
 use Rattle.read_line.specs.Lines.{Head, head_of}
 use Rattle.lines_log.specs.Faults.{is_end, refused_at}
 use Rattle.lines_log.specs.KeyFaults.{IsKeyedFault, IsKeysBodyFault, IsKeysFault}
@@ -32,12 +32,12 @@ pub keys_begun : (head : Head) (body : List ℕ) (reader : KeysReader) → AreKe
 keys_begun head body reader read = record { lines = []; read = read; left = refl }
 
 at_line : (head : Head) (before : Bool) (body lines : List (List ℕ)) (rest line behind : List ℕ)
-    → HasKeyedRest head before body lines rest → IsSplit rest line behind → body ≡ lines ++ line ∷ lines_of behind
-at_line head false body lines rest line behind going split = going ∙ ap (λ (l : List (List ℕ)). lines ++ l) split.lines
+    → HasKeyedRest head before body lines rest → lines_of rest ≡ line ∷ lines_of behind → body ≡ lines ++ line ∷ lines_of behind
+at_line head false body lines rest line behind going split = going ∙ ap (λ (l : List (List ℕ)). lines ++ l) split
 at_line head true body lines rest line behind over split = absurd (none_left rest line behind split over.0)
 
 pub keys_one_more : (head : Head) (before : Bool) (body : List (List ℕ)) (rest line behind : List ℕ) (old new : KeysReader) (ended : Bool)
-    → ArePartlyRead head body before rest old → IsSplit rest line behind
+    → ArePartlyRead head body before rest old → lines_of rest ≡ line ∷ lines_of behind
     → ((lines : List (List ℕ)) → AreKeysRead head (first_key body) lines old
     → ReadsKeyedLine head (first_key body) lines line (is_end behind) new ended)
     → ArePartlyRead head body ended behind new
@@ -93,7 +93,7 @@ there (r ∷ rs) zero within = (r, refl)
 there (r ∷ rs) (suc n) within = there rs n (omega (arith, within))
 
 pub keys_at_fault : (head : Head) (ended : Bool) (body : List (List ℕ)) (rest line behind : List ℕ) (reader : KeysReader) (f : Fault)
-    → ArePartlyRead head body ended rest reader → IsSplit rest line behind
+    → ArePartlyRead head body ended rest reader → lines_of rest ≡ line ∷ lines_of behind
     → ((lines : List (List ℕ)) → AreKeysRead head (first_key body) lines reader → IsKeyedFault head lines line (is_end behind) f)
     → IsKeysBodyFault head body f
 keys_at_fault head ended body rest line behind reader f way split wrong = record {
@@ -149,7 +149,7 @@ key_log head limit ended lines key one log read limit_is finished =
 
 -- what was read are the logs
 pub keys_assembled : (bytes text first body : List ℕ) (head : Head) (limit : ℕ) (reader : KeysReader) (read : KeysLog)
-    → text ≡ text_of bytes → IsSplit text first body → head_of first ≡ Ok head
+    → text ≡ text_of bytes → lines_of text ≡ first ∷ lines_of body → head_of first ≡ Ok head
     → AreReadWhole head (lines_of body) reader read.ended → limit ≡ unwrap_or head.limit 1
     → AreFinished limit read.ended reader.readers.items read.logs.items → IsKeysLog bytes read
 keys_assembled bytes text first body head limit reader read is_text split said whole limit_is finished = record {
@@ -157,7 +157,7 @@ keys_assembled bytes text first body head limit reader read is_text split said w
   header = first;
   body = lines_of body;
   lines = whole.lines;
-  split = ap lines_of (sym is_text) ∙ split.lines;
+  split = ap lines_of (sym is_text) ∙ split;
   said = said;
   all = whole.all;
   long = finished.long ∙ whole.read.long;
@@ -169,17 +169,18 @@ keys_assembled bytes text first body head limit reader read is_text split said w
 }
 
 pub later_keys_fault : (bytes text first body : List ℕ) (head : Head) (f : Fault) → text ≡ text_of bytes
-    → IsSplit text first body → head_of first ≡ Ok head → IsKeysBodyFault head (lines_of body) f → IsKeysFault bytes f
+    → lines_of text ≡ first ∷ lines_of body → head_of first ≡ Ok head → IsKeysBodyFault head (lines_of body) f → IsKeysFault bytes f
 later_keys_fault bytes text first body head f is_text split said wrong = inr (inr (inr (record {
   header = first;
   body = lines_of body;
   head = head;
-  split = ap lines_of (sym is_text) ∙ split.lines;
+  split = ap lines_of (sym is_text) ∙ split;
   said = said;
   wrong = wrong;
 })))
 
-pub header_keys_fault : (bytes text first body : List ℕ) (why : DocError) (f : Fault) → text ≡ text_of bytes → IsSplit text first body
+pub header_keys_fault : (bytes text first body : List ℕ) (why : DocError) (f : Fault) → text ≡ text_of bytes
+    → lines_of text ≡ first ∷ lines_of body
     → (why ≢ NoMemory → head_of first ≡ Err why) → f ≡ refused_at 1 why → IsKeysFault bytes f
 header_keys_fault bytes text first body why f is_text split refused told = by_cause (is_memory why)
   where
@@ -189,7 +190,7 @@ header_keys_fault bytes text first body why f is_text split refused told = by_ca
       header = first;
       body = lines_of body;
       why = why;
-      split = ap lines_of (sym is_text) ∙ split.lines;
+      split = ap lines_of (sym is_text) ∙ split;
       refused = refused ne;
       told = told;
     })))

@@ -4,5 +4,6 @@ pub mod KeyBodyLemmas
 pub mod KeyEntryLemmas
 pub mod KeyLemmas
 pub mod KeyReadLemmas
+pub mod PackedLemmas
 pub mod ReadLemmas
 pub mod TextLemmas

@@ -4,6 +4,7 @@ ghost use Rattle.lines_log.specs.KeyFaults.{IsKeysBodyFault, IsKeysFault};
 ghost use Rattle.lines_log.specs.Keys.{IsKeysLog};
 ghost use Rattle.lines_log.specs.Logs.{first_key};
 ghost use Rattle.lines_log.specs.inner.KeyReadings.{AreFinished, AreKeysRead, AreReadWhole, IsKeyFinished};
+ghost use Rattle.packed_text.specs.Words.{text_in, told};
 ghost use Rattle.text_lines.specs.Splits.{lines_of};
 ghost use Rattle.read_line.specs.Lines.{Head};
 
@@ -13,26 +14,31 @@ use crate::key_reader::KeyReader;
 use crate::keys_reader::KeysReader;
 use crate::log::{HEADER, finish, first_key, is_end, text_of};
 use kept_lines::{KeyLog, KeysLog};
+use packed_text::PackedText;
 use program_runs::Fault;
 use read_document::DocError;
 use read_line::read_header;
 use std::alloc::{AllocError, Global};
-use text_lines::split_line;
 
-/// What is kept of the log of each key of the operations that the bytes stand for, or the first line at fault.
-pub fn read_keys(alloc: Global, bytes: &[u8]) -> Result<KeysLog, Fault>
-    ensures logs { IfOk result (IsKeysLog bytes.now) }
-    ensures fault { IfErr result (IsKeysFault bytes.now) }
+/// What is kept of the log of each key of the operations that the text stands for, or the first line at fault.
+pub fn read_keys(alloc: Global, text: &PackedText) -> Result<KeysLog, Fault>
+    ensures logs { IfOk result (IsKeysLog (text_in text.now)) }
+    ensures fault { IfErr result (IsKeysFault (text_in text.now)) }
 {
-    let text = text_of(bytes);
-    let Some((first, body)) = split_line(text) else {
+    let codes = text_of(text.codes.as_slice());
+    if is_end(codes) {
         return Err(refused_at(HEADER, DocError::NotJson));
+    }
+    let mut first = Vec::new(alloc);
+    let body = match text.next_line(&mut first, codes) {
+        Ok(body) => body,
+        Err(_) => return Err(Fault::NoMemory),
     };
-    let header = match read_header(alloc, first) {
+    let header = match read_header(alloc, first.as_slice()) {
         Ok(header) => header,
         Err(why) => return Err(refused_at(HEADER, why)),
     };
-    let key = match first_key(alloc, body) {
+    let key = match first_key(alloc, text, body) {
         Ok(key) => key,
         Err(_) => return Err(Fault::NoMemory),
     };
@@ -41,7 +47,7 @@ pub fn read_keys(alloc: Global, bytes: &[u8]) -> Result<KeysLog, Fault>
         Ok(reader) => reader,
         Err(_) => return Err(Fault::NoMemory),
     };
-    let ended = match read_body(alloc, &mut reader, body) {
+    let ended = match read_body(alloc, &mut reader, text, body) {
         Ok(ended) => ended,
         Err(fault) => return Err(fault),
     };
@@ -51,22 +57,33 @@ pub fn read_keys(alloc: Global, bytes: &[u8]) -> Result<KeysLog, Fault>
     }
 }
 
-/// Reads the lines behind the header, and says whether the last one is the end.
-fn read_body(alloc: Global, reader: &mut KeysReader, body: &[u8]) -> Result<bool, Fault>
+/// Reads the lines of a text behind the header, and says whether the last one is the end.
+fn read_body(
+    alloc: Global,
+    reader: &mut KeysReader,
+    text: &PackedText,
+    body: &[u8],
+) -> Result<bool, Fault>
     requires room { reader.old.count + length body.now + 1 < 2 ^ 64 }
-    requires known { (head : Head) × AreKeysRead head (first_key (lines_of body.now)) [] reader.old }
+    requires known { (head : Head)
+        × AreKeysRead head (first_key (lines_of (told text.now.packed body.now))) [] reader.old }
     ensures read { IfOk result (λ ended. (head : Head) →
-        AreKeysRead head (first_key (lines_of body.now)) [] reader.old →
-        AreReadWhole head (lines_of body.now) reader.new ended) }
+        AreKeysRead head (first_key (lines_of (told text.now.packed body.now))) [] reader.old →
+        AreReadWhole head (lines_of (told text.now.packed body.now)) reader.new ended) }
     ensures fault { IfErr result (λ fault. (head : Head) →
-        AreKeysRead head (first_key (lines_of body.now)) [] reader.old →
-        IsKeysBodyFault head (lines_of body.now) fault) }
+        AreKeysRead head (first_key (lines_of (told text.now.packed body.now))) [] reader.old →
+        IsKeysBodyFault head (lines_of (told text.now.packed body.now)) fault) }
 {
+    let mut line = Vec::new(alloc);
     let mut rest = body;
     let mut ended = false;
-    'lines: while let Some((line, behind)) = split_line(rest) {
+    'lines: while !is_end(rest) {
+        let behind = match text.next_line(&mut line, rest) {
+            Ok(behind) => behind,
+            Err(_) => return Err(Fault::NoMemory),
+        };
         let last = is_end(behind);
-        ended = match reader.read(alloc, line, last) {
+        ended = match reader.read(alloc, line.as_slice(), last) {
             Ok(ended) => ended,
             Err(fault) => return Err(fault),
         };

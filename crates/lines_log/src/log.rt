@@ -3,40 +3,47 @@ ghost use Rattle.std.specs.Prelude.{◌≡◌, ◌<◌, ◌+◌, ◌^◌, ℕ, L
 ghost use Rattle.std.specs.Prelude.{string_bytes, IfErr, IfOk, OnOk};
 ghost use Rattle.history_core.specs.declared.history.Op.{Op};
 ghost use Rattle.lines_log.specs.Faults.{IsBodyFault, is_end, IsLinesFault};
-ghost use Rattle.lines_log.specs.Logs.{first_key, IsLinesLog, text_of};
+ghost use Rattle.lines_log.specs.Logs.{first_key, IsLinesLog, key_said, text_of};
 ghost use Rattle.lines_log.specs.inner.Readings.{IsFinished, AreRead, IsReadWhole, rule_of};
+ghost use Rattle.packed_text.specs.Words.{text_in, told};
 ghost use Rattle.record_numbers.specs.Numbered.{AreNumbered};
+ghost use Rattle.read_line.specs.Lines.{entry_of};
 ghost use Rattle.text_lines.specs.Splits.{lines_of};
 
 use crate::faults::refused_at;
 use crate::reader::Reader;
 use kept_lines::LinesLog;
+use packed_text::PackedText;
 use program_runs::Fault;
 use program_streams::ends_in_space;
 use read_document::DocError;
 use read_line::{LineOp, LogLine, read_header, read_line};
 use record_numbers::RecordNumbers;
 use std::alloc::{AllocError, Global};
-use text_lines::split_line;
 
 /// The line of the header.
 pub(crate) const HEADER: usize = 1;
 
-/// What is kept of the log that the bytes stand for, or the first line at fault.
-pub fn read_lines(alloc: Global, bytes: &[u8]) -> Result<LinesLog, Fault>
-    ensures log { IfOk result (λ read. (log : List (Op ℕ)) × IsLinesLog bytes.now log read) }
-    ensures fault { IfErr result (IsLinesFault bytes.now) }
+/// What is kept of the log that the text stands for, or the first line at fault.
+pub fn read_lines(alloc: Global, text: &PackedText) -> Result<LinesLog, Fault>
+    ensures log { IfOk result (λ read. (log : List (Op ℕ)) × IsLinesLog (text_in text.now) log read) }
+    ensures fault { IfErr result (IsLinesFault (text_in text.now)) }
 {
-    let text = text_of(bytes);
-    let Some((first, body)) = split_line(text) else {
+    let codes = text_of(text.codes.as_slice());
+    if is_end(codes) {
         return Err(refused_at(HEADER, DocError::NotJson));
+    }
+    let mut first = Vec::new(alloc);
+    let body = match text.next_line(&mut first, codes) {
+        Ok(body) => body,
+        Err(_) => return Err(Fault::NoMemory),
     };
-    let header = match read_header(alloc, first) {
+    let header = match read_header(alloc, first.as_slice()) {
         Ok(header) => header,
         Err(why) => return Err(refused_at(HEADER, why)),
     };
     let limit = header.limit.unwrap_or(1);
-    let key = match first_key(alloc, body) {
+    let key = match first_key(alloc, text, body) {
         Ok(key) => key,
         Err(_) => return Err(Fault::NoMemory),
     };
@@ -44,7 +51,7 @@ pub fn read_lines(alloc: Global, bytes: &[u8]) -> Result<LinesLog, Fault>
         Ok(reader) => reader,
         Err(_) => return Err(Fault::NoMemory),
     };
-    let ended = match read_body(alloc, &mut reader, body) {
+    let ended = match read_body(alloc, &mut reader, text, body) {
         Ok(ended) => ended,
         Err(fault) => return Err(fault),
     };
@@ -65,14 +72,21 @@ pub fn text_of(bytes: &[u8]) -> &[u8]
     }
 }
 
-/// The key of the operation on the first of these lines, if it has one.
-pub(crate) fn first_key(alloc: Global, body: &[u8]) -> Result<Option<String>, AllocError>
-    ensures { IfOk result (λ key. option_map string_bytes key ≡ first_key (lines_of body.now)) }
+/// The key of the operation on the first of these lines of a text, if it has one.
+pub(crate) fn first_key(
+    alloc: Global,
+    text: &PackedText,
+    body: &[u8],
+) -> Result<Option<String>, AllocError>
+    ensures { IfOk result (λ key.
+        option_map string_bytes key ≡ first_key (lines_of (told text.now.packed body.now))) }
 {
-    let Some((line, _)) = split_line(body) else {
+    if is_end(body) {
         return Ok(None);
-    };
-    match read_line(alloc, line) {
+    }
+    let mut line = Vec::new(alloc);
+    text.next_line(&mut line, body)?;
+    match read_line(alloc, line.as_slice()) {
         Ok(LogLine::Operation(op)) => Ok(key_of(op)),
         Ok(LogLine::Done(_)) => Ok(None),
         Err(DocError::NoMemory) => Err(AllocError),
@@ -87,21 +101,31 @@ fn key_of(op: LineOp) -> Option<String>
     key
 }
 
-/// Reads the lines behind the header, and says whether the last one is the end.
-fn read_body(alloc: Global, reader: &mut Reader, body: &[u8]) -> Result<bool, Fault>
+/// Reads the lines of a text behind the header, and says whether the last one is the end.
+fn read_body(
+    alloc: Global,
+    reader: &mut Reader,
+    text: &PackedText,
+    body: &[u8],
+) -> Result<bool, Fault>
     requires room { reader.old.count + length body.now + 1 < 2 ^ 64 }
     requires known { (opening : List ℕ) × AreRead opening [] reader.old }
     ensures read { IfOk result (λ ended. (opening : List ℕ) → AreRead opening [] reader.old →
-        IsReadWhole opening (lines_of body.now) reader.new ended) }
+        IsReadWhole opening (lines_of (told text.now.packed body.now)) reader.new ended) }
     ensures rule { OnOk result (rule_of reader.new ≡ rule_of reader.old) }
     ensures fault { IfErr result (λ fault. (opening : List ℕ) → AreRead opening [] reader.old →
-        IsBodyFault opening (rule_of reader.old) (lines_of body.now) fault) }
+        IsBodyFault opening (rule_of reader.old) (lines_of (told text.now.packed body.now)) fault) }
 {
+    let mut line = Vec::new(alloc);
     let mut rest = body;
     let mut ended = false;
-    'lines: while let Some((line, behind)) = split_line(rest) {
+    'lines: while !is_end(rest) {
+        let behind = match text.next_line(&mut line, rest) {
+            Ok(behind) => behind,
+            Err(_) => return Err(Fault::NoMemory),
+        };
         let last = is_end(behind);
-        ended = match reader.read(alloc, line, last) {
+        ended = match reader.read(alloc, line.as_slice(), last) {
             Ok(ended) => ended,
             Err(fault) => return Err(fault),
         };

@@ -10,7 +10,7 @@ ghost use Rattle.picture_answers.specs.Answers.{IsPictureAnswer};
 
 use crate::handing::hand_out;
 use fsr_check_answers::check as check_document;
-use fsr_order_answers::order as order_log;
+use fsr_order_answers::order_bytes;
 use fsr_play_answers::play as play_schedule;
 use picture_answers::{PICTURE, answer as draw};
 use program_runs::{FSR, Show};
@@ -28,7 +28,7 @@ pub fn check(alloc: Global, document: &[u8], buffer: &mut [u8], size: &mut u64) 
 pub fn order(alloc: Global, show: Show, document: &[u8], buffer: &mut [u8], size: &mut u64) -> u32
     ensures { AnswersInMemory (IsOrderAnswer show document.now) buffer.old buffer.new size.new result }
 {
-    let reply = order_log(alloc, show, document);
+    let reply = order_bytes(alloc, show, document);
     hand_out(alloc, &FSR, reply, buffer, size)
 }
 

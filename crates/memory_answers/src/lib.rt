@@ -1,5 +1,5 @@
 //! What `fsr` and `picture` answer to a document in memory: the text, or the line of a fault, goes to a buffer.
-//! Nothing is copied of the document, and no stream, word or thread is needed.
+//! No stream, word or thread is needed, and nothing is copied of the document but by `order`.
 #![tactic(auto)]
 
 mod answers;

@@ -1,5 +1,11 @@
 -- One line fewer, and the first of those that are left.
-use Rattle.std.proofs.Common.{◌≡◌, ◌∙◌, ◌+◌, ℕ, zero, suc, List, [], ◌∷◌, ap, arith, drop, refl, slice_get}
+use Rattle.std.proofs.Common.{◌≡◌, ◌∙◌, ◌+◌, ℕ, zero, suc, Bool, List, [], ◌∷◌, ap, arith, drop, map, refl, slice_get, sym}
+use Rattle.std.specs.Prelude.{unwrap_or}
+use Rattle.text_lines.specs.Splits.{lines_of}
+use Rattle.packed_text.specs.Words.{told}
+use Rattle.print_reasons.proofs.BodyLemmas.{told_body}
+use Rattle.print_reasons.specs.Text.{body_of}
+use Rattle.print_evidence.specs.Lost.{line_in}
 
 drop_suc : {X : Type 0} (n : ℕ) (xs : List X) → drop 1 (drop n xs) ≡ drop (suc n) xs
 drop_suc zero xs = refl
@@ -16,3 +22,13 @@ pub first_left : {X : Type 0} (n : ℕ) (xs : List X) → slice_get (drop n xs) 
 first_left zero xs = refl
 first_left (suc n) [] = refl
 first_left (suc n) (x ∷ xs) = first_left n xs
+
+-- the line of a log by its codes
+pub told_line : (packed : Bool) (codes : List ℕ) (place : ℕ) → told packed (line_in codes place) ≡ line_in (told packed codes) place
+told_line packed codes place =
+    there (body_of codes) place ∙ ap (λ (ls : List (List ℕ)). unwrap_or (slice_get ls place) []) (told_body packed codes)
+  where
+    there : (ls : List (List ℕ)) (n : ℕ) → told packed (unwrap_or (slice_get ls n) []) ≡ unwrap_or (slice_get (map (told packed) ls) n) []
+    there [] n = refl
+    there (l ∷ ls) zero = refl
+    there (l ∷ ls) (suc n) = there ls n

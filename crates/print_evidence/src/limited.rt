@@ -1,25 +1,27 @@
 //! The line at whose end a log is lost by its limit.
 ghost use Rattle.std.specs.Prelude.{◌≡◌, ◌++◌, IfOk, OnOk};
 ghost use Rattle.print_evidence.specs.Limited.{limited_lines, with_limit_text};
+ghost use Rattle.packed_text.specs.Words.{text_in};
 
-use crate::lost::line_in;
+use crate::lost::push_line_in;
 use history_core::Reason;
-use print_reasons::{push_line, push_line_of, push_u64, push_words, reason_text};
+use packed_text::PackedText;
+use print_reasons::{push_line_of, push_u64, push_words, reason_text};
 use std::alloc::{AllocError, Global};
 
 /// That with this limit a log is lost at the end, at this moment, of the operation at a place; without, it is lawful.
 #[tactic(auto, using(std::proofs::Common::append_assoc))]
 pub fn limited_lines(
     alloc: Global,
-    bytes: &[u8],
+    log: &PackedText,
     place: usize,
     end: u64,
     limit: u64,
 ) -> Result<Vec<u8>, AllocError>
-    ensures { IfOk result (λ text. text.items ≡ limited_lines bytes.now place end limit) }
+    ensures { IfOk result (λ text. text.items ≡ limited_lines (text_in log.now) place end limit) }
 {
     let mut text = reason_text(alloc, Reason::Limit { refused: place })?;
-    push_line(&mut text, place, line_in(bytes, place))?;
+    push_line_in(alloc, &mut text, log, place)?;
     push_with_limit(&mut text, place, end, limit)?;
     Ok(text)
 }

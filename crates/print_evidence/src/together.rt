@@ -1,9 +1,11 @@
 //! The operations of a window in which a log is lost.
 ghost use Rattle.std.specs.Prelude.{◌≡◌, ◌++◌, IfOk, OnOk};
 ghost use Rattle.print_evidence.specs.Together.{named_lines, shown_lines, together_text, window_text};
+ghost use Rattle.packed_text.specs.Words.{text_in};
 
-use crate::lost::line_in;
-use print_reasons::{push_line, push_u64, push_words, push_write_lines};
+use crate::lost::push_line_in;
+use packed_text::PackedText;
+use print_reasons::{push_u64, push_words, push_write_lines};
 use std::alloc::{AllocError, Global};
 
 /// That no order of the operations at these places is lawful, as they are seen from the first moment to the last one,
@@ -11,16 +13,16 @@ use std::alloc::{AllocError, Global};
 #[tactic(auto, using(std::proofs::Common::append_assoc))]
 pub fn together_text(
     alloc: Global,
-    bytes: &[u8],
+    log: &PackedText,
     first: u64,
     last: u64,
     places: &[usize],
 ) -> Result<Vec<u8>, AllocError>
-    ensures { IfOk result (λ text. text.items ≡ together_text bytes.now first last places.now) }
+    ensures { IfOk result (λ text. text.items ≡ together_text (text_in log.now) first last places.now) }
 {
     let mut text = Vec::new(alloc);
     push_named_lines(&mut text, places)?;
-    push_shown_lines(&mut text, bytes, places)?;
+    push_shown_lines(alloc, &mut text, log, places)?;
     push_window(&mut text, first, last)?;
     Ok(text)
 }
@@ -33,11 +35,16 @@ fn push_named_lines(text: &mut Vec<u8>, places: &[usize]) -> Result<(), AllocErr
     push_words(text, "\n")
 }
 
-fn push_shown_lines(text: &mut Vec<u8>, bytes: &[u8], places: &[usize]) -> Result<(), AllocError>
-    ensures { OnOk result (text.new.items ≡ text.old.items ++ shown_lines bytes.now places.now) }
+fn push_shown_lines(
+    alloc: Global,
+    text: &mut Vec<u8>,
+    log: &PackedText,
+    places: &[usize],
+) -> Result<(), AllocError>
+    ensures { OnOk result (text.new.items ≡ text.old.items ++ shown_lines (text_in log.now) places.now) }
 {
     for place in places {
-        push_line(text, *place, line_in(bytes, *place))?;
+        push_line_in(alloc, text, log, *place)?;
     }
     Ok(())
 }

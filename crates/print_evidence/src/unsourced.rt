@@ -1,19 +1,21 @@
 //! An operation that can't have found its record.
 ghost use Rattle.std.specs.Prelude.{◌≡◌, ◌++◌, IfOk, OnOk};
 ghost use Rattle.print_evidence.specs.Unsourced.{early_lines, later_text, of_line, two_lines, unwritten_lines};
+ghost use Rattle.packed_text.specs.Words.{text_in};
 
-use crate::lost::line_in;
+use crate::lost::push_line_in;
 use history_core::Reason;
-use print_reasons::{push_line, push_line_of, push_u64, push_words, reason_text};
+use packed_text::PackedText;
+use print_reasons::{push_line_of, push_u64, push_words, reason_text};
 use std::alloc::{AllocError, Global};
 
 /// That the operation at a place found a record that no other one can leave.
 #[tactic(auto, using(std::proofs::Common::append_assoc))]
-pub fn unwritten_lines(alloc: Global, bytes: &[u8], place: usize) -> Result<Vec<u8>, AllocError>
-    ensures { IfOk result (λ text. text.items ≡ unwritten_lines bytes.now place) }
+pub fn unwritten_lines(alloc: Global, log: &PackedText, place: usize) -> Result<Vec<u8>, AllocError>
+    ensures { IfOk result (λ text. text.items ≡ unwritten_lines (text_in log.now) place) }
 {
     let mut text = reason_text(alloc, Reason::Unwritten { read: place })?;
-    push_line(&mut text, place, line_in(bytes, place))?;
+    push_line_in(alloc, &mut text, log, place)?;
     push_of_line(
         &mut text,
         place,
@@ -27,20 +29,20 @@ pub fn unwritten_lines(alloc: Global, bytes: &[u8], place: usize) -> Result<Vec<
 #[tactic(auto, using(std::proofs::Common::append_assoc))]
 pub fn early_lines(
     alloc: Global,
-    bytes: &[u8],
+    log: &PackedText,
     place: usize,
     source: usize,
     end: u64,
     begin: u64,
 ) -> Result<Vec<u8>, AllocError>
-    ensures { IfOk result (λ text. text.items ≡ early_lines bytes.now place source end begin) }
+    ensures { IfOk result (λ text. text.items ≡ early_lines (text_in log.now) place source end begin) }
 {
     let reason = Reason::Early {
         read: place,
         write: source,
     };
     let mut text = reason_text(alloc, reason)?;
-    push_two_lines(&mut text, bytes, place, source)?;
+    push_two_lines(alloc, &mut text, log, place, source)?;
     push_of_line(
         &mut text,
         place,
@@ -53,20 +55,21 @@ pub fn early_lines(
 /// The lines of two operations, as the log has them.
 #[tactic(auto, using(std::proofs::Common::append_assoc))]
 fn push_two_lines(
+    alloc: Global,
     text: &mut Vec<u8>,
-    bytes: &[u8],
+    log: &PackedText,
     one: usize,
     other: usize,
 ) -> Result<(), AllocError>
-    ensures { OnOk result (text.new.items ≡ text.old.items ++ two_lines bytes.now one other) }
+    ensures { OnOk result (text.new.items ≡ text.old.items ++ two_lines (text_in log.now) one other) }
 {
     let (first, second) = if other < one {
         (other, one)
     } else {
         (one, other)
     };
-    push_line(text, first, line_in(bytes, first))?;
-    push_line(text, second, line_in(bytes, second))
+    push_line_in(alloc, text, log, first)?;
+    push_line_in(alloc, text, log, second)
 }
 
 #[tactic(auto, using(std::proofs::Common::append_assoc))]

@@ -5,11 +5,13 @@ ghost use Rattle.print_once.specs.KeysText.{keys_show_little, keys_text};
 ghost use Rattle.print_once.specs.KeysText.{lawful_keys, order_text, orders_text};
 ghost use Rattle.print_once.specs.KeysText.{totals, totals_text, unjudged_line, unlawful_key};
 ghost use Rattle.print_reasons.specs.Text.{writes_text};
+ghost use Rattle.packed_text.specs.Words.{text_in};
 
 use crate::keys_verdict::KeysVerdict;
 use crate::whole::{whole_places, whole_reason, whole_thinned};
 use history_core::{LogAnswer, Reason};
 use kept_lines::{KeyLog, KeysLog, LinesLog};
+use packed_text::PackedText;
 use print_reasons::{
     are_few, push_count, push_end, push_little, push_words, push_writes, verdict_text,
 };
@@ -28,11 +30,11 @@ pub struct Totals {
 pub fn keys_text(
     alloc: Global,
     order: bool,
-    bytes: &[u8],
+    packed: &PackedText,
     log: &KeysLog,
     verdict: &KeysVerdict,
 ) -> Result<Vec<u8>, AllocError>
-    ensures { IfOk result (λ text. text.items ≡ keys_text order bytes.now log.now verdict.now) }
+    ensures { IfOk result (λ text. text.items ≡ keys_text order (text_in packed.now) log.now verdict.now) }
 {
     let sums = added_up(log.logs.as_slice())?;
     match verdict {
@@ -48,7 +50,7 @@ pub fn keys_text(
             most,
         } => {
             let logs = log.logs.as_slice();
-            let mut text = unlawful_key(alloc, bytes, logs, *number, *reason, *most)?;
+            let mut text = unlawful_key(alloc, packed, logs, *number, *reason, *most)?;
             push_keys_counts(&mut text, log, sums)?;
             Ok(text)
         }
@@ -175,33 +177,34 @@ fn push_key_writes(text: &mut Vec<u8>, one: &KeyLog, writes: &[usize]) -> Result
 /// Why a key has no lawful order, by the lines of the whole text, and the key.
 fn unlawful_key(
     alloc: Global,
-    bytes: &[u8],
+    packed: &PackedText,
     logs: &[KeyLog],
     number: usize,
     reason: Reason,
     most: u64,
 ) -> Result<Vec<u8>, AllocError>
-    ensures { IfOk result (λ text. text.items ≡ unlawful_key bytes.now (slice_get logs.now number) reason most) }
+    ensures { IfOk result (λ text. text.items
+        ≡ unlawful_key (text_in packed.now) (slice_get logs.now number) reason most) }
 {
     match logs.get(number) {
-        Some(one) => unlawful_one(alloc, bytes, one, reason, most),
+        Some(one) => unlawful_one(alloc, packed, one, reason, most),
         None => Ok(Vec::new(alloc)),
     }
 }
 
 fn unlawful_one(
     alloc: Global,
-    bytes: &[u8],
+    packed: &PackedText,
     one: &KeyLog,
     reason: Reason,
     most: u64,
 ) -> Result<Vec<u8>, AllocError>
-    ensures { IfOk result (λ text. text.items ≡ unlawful_key bytes.now (Some one.now) reason most) }
+    ensures { IfOk result (λ text. text.items ≡ unlawful_key (text_in packed.now) (Some one.now) reason most) }
 {
     let thinned = whole_thinned(alloc, one.places.as_slice(), &one.log.thinned)?;
     let reason = whole_reason(one.places.as_slice(), reason);
     let found = LogAnswer::Unlawful { reason };
-    let mut text = verdict_text(alloc, false, bytes, &thinned, most, &found)?;
+    let mut text = verdict_text(alloc, false, packed, &thinned, most, &found)?;
     push_unlawful(&mut text, one)?;
     Ok(text)
 }

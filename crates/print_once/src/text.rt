@@ -1,9 +1,11 @@
 //! All that is printed of a log in lines.
 ghost use Rattle.std.specs.Prelude.{◌≡◌, ◌++◌, IfOk, OnOk};
+ghost use Rattle.packed_text.specs.Words.{text_in};
 ghost use Rattle.print_once.specs.Text.{counts_text, lines_text, shown_text, shows_little};
 
 use history_core::LogAnswer;
 use kept_lines::LinesLog;
+use packed_text::PackedText;
 use print_reasons::{are_few, push_count, push_end, push_little, verdict_text};
 use std::alloc::{AllocError, Global};
 
@@ -12,14 +14,14 @@ use std::alloc::{AllocError, Global};
 pub fn lines_text(
     alloc: Global,
     order: bool,
-    bytes: &[u8],
+    packed: &PackedText,
     log: &LinesLog,
     most: u64,
     found: &LogAnswer,
 ) -> Result<Vec<u8>, AllocError>
-    ensures { IfOk result (λ text. text.items ≡ lines_text order bytes.now log.now most found.now) }
+    ensures { IfOk result (λ text. text.items ≡ lines_text order (text_in packed.now) log.now most found.now) }
 {
-    let mut text = verdict_text(alloc, order, bytes, &log.thinned, most, found)?;
+    let mut text = verdict_text(alloc, order, packed, &log.thinned, most, found)?;
     push_shown(&mut text, log, found)?;
     push_counts(&mut text, log)?;
     Ok(text)

@@ -1,2 +1,3 @@
+pub mod BodyLemmas
 pub mod CountLemmas
 mod PlaceLemmas

@@ -1,5 +1,6 @@
 //! The printed lines.
-ghost use Rattle.std.specs.Prelude.{◌≡◌, ◌++◌, IfOk, OnOk};
+ghost use Rattle.std.specs.Prelude.{◌≡◌, ◌++◌, map, IfOk, OnOk};
+ghost use Rattle.packed_text.specs.Words.{text_in, told};
 ghost use Rattle.print_reasons.specs.Sentences.{number_text};
 ghost use Rattle.print_reasons.specs.Text.{body_of, in_lines, lawful_text, line_text, named_text, unlawful_text};
 ghost use Rattle.print_reasons.specs.Text.{verdict_text, write_lines};
@@ -12,6 +13,7 @@ use crate::named::{in_kept, is_named_next, next_of, places_of};
 use crate::sentence::{push_line_of, push_sentence};
 use history_core::{LogAnswer, Op, Reason, Search, Thinned};
 use itoa::Buffer;
+use packed_text::PackedText;
 use print_search::search_text;
 use std::alloc::{AllocError, Global};
 use text_lines::{line_of, split_line};
@@ -20,16 +22,16 @@ use text_lines::{line_of, split_line};
 pub fn verdict_text(
     alloc: Global,
     order: bool,
-    bytes: &[u8],
+    log: &PackedText,
     thinned: &Thinned,
     most: u64,
     found: &LogAnswer,
 ) -> Result<Vec<u8>, AllocError>
-    ensures { IfOk result (λ text. text.items ≡ verdict_text order bytes.now thinned.now most found.now) }
+    ensures { IfOk result (λ text. text.items ≡ verdict_text order (text_in log.now) thinned.now most found.now) }
 {
     match found {
         LogAnswer::Lawful { writes } => lawful_text(alloc, order, writes.as_slice()),
-        LogAnswer::Unlawful { reason } => unlawful_text(alloc, bytes, thinned, most, *reason),
+        LogAnswer::Unlawful { reason } => unlawful_text(alloc, log, thinned, most, *reason),
     }
 }
 
@@ -65,18 +67,18 @@ pub fn push_write_lines(text: &mut Vec<u8>, writes: &[usize]) -> Result<(), Allo
 #[tactic(auto, using(std::proofs::Common::append_assoc))]
 fn unlawful_text(
     alloc: Global,
-    bytes: &[u8],
+    log: &PackedText,
     thinned: &Thinned,
     most: u64,
     reason: Reason,
 ) -> Result<Vec<u8>, AllocError>
-    ensures { IfOk result (λ text. text.items ≡ unlawful_text bytes.now thinned.now most reason) }
+    ensures { IfOk result (λ text. text.items ≡ unlawful_text (text_in log.now) thinned.now most reason) }
 {
     let ops = thinned.history.ops.as_slice();
     let places = thinned.places.as_slice();
     let mut text = reason_text(alloc, reason)?;
     let named = places_of(alloc, in_kept(places, reason))?;
-    push_named(&mut text, body_of(bytes), ops, places, named.as_slice())?;
+    push_shown(alloc, &mut text, log, ops, places, named.as_slice())?;
     push_sentence(&mut text, thinned, most, reason)?;
     Ok(text)
 }
@@ -125,23 +127,43 @@ pub fn body_of(bytes: &[u8]) -> &[u8]
     }
 }
 
-/// The lines of the operations that are named, of those that are kept.
-fn push_named(
+/// The lines of a log of the operations that are named, of those that are kept.
+fn push_shown(
+    alloc: Global,
     text: &mut Vec<u8>,
-    body: &[u8],
+    log: &PackedText,
     ops: &[Op<usize>],
     places: &[usize],
     named: &[usize],
 ) -> Result<(), AllocError>
     ensures { OnOk result (text.new.items
-        ≡ text.old.items ++ named_text ops.now places.now named.now 0 0 (lines_of body.now)) }
+        ≡ text.old.items ++ named_text ops.now places.now named.now 0 0 (body_of (text_in log.now))) }
 {
+    let body = body_of(log.codes.as_slice());
+    push_named(alloc, text, log, body, ops, places, named)
+}
+
+/// The same, of the lines for which these codes of the log stand.
+fn push_named(
+    alloc: Global,
+    text: &mut Vec<u8>,
+    log: &PackedText,
+    body: &[u8],
+    ops: &[Op<usize>],
+    places: &[usize],
+    named: &[usize],
+) -> Result<(), AllocError>
+    ensures { OnOk result (text.new.items ≡ text.old.items
+        ++ named_text ops.now places.now named.now 0 0 (map (told log.now.packed) (lines_of body.now))) }
+{
+    let mut line = Vec::new(alloc);
     let mut rest = body;
     let mut place = 0;
     let mut next = 0;
-    'lines: while let Some((line, behind)) = split_line(rest) {
+    'lines: while let Some((own, behind)) = split_line(rest) {
         if is_named_next(ops, places, named, next, place) {
-            push_line(text, place, line)?;
+            log.tell(&mut line, own)?;
+            push_line(text, place, line.as_slice())?;
         }
         next = next_of(places, next, place);
         rest = behind;

@@ -1,5 +1,5 @@
 -- What `parse` reads of a word is its budget, if it is in the range; what it doesn't read is none.
-use Rattle.std.proofs.Common.{◌≡◌, ◌<◌, ◌≤◌, ◌^◌, ℕ, Bool, true, false, List, [], ◌∷◌, Option, Some, None, refl, sym, arith}
+use Rattle.std.proofs.Common.{◌≡◌, ◌<◌, ◌≤◌, ◌^◌, ℕ, Bool, true, false, List, [], ◌∷◌, Some, None, refl, sym, arith}
 use Rattle.std.proofs.lemmas.Bool.{and_parts, ltb-true, ltb-false, lt-ltb, lt-leb}
 use Rattle.std.specs.Prelude.{◌&&◌, if◌then◌else◌, length, nat_le, nat_lt}
 use Rattle.std.specs.Char.{digit_value}

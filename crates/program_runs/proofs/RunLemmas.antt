@@ -6,10 +6,12 @@ use Rattle.std.proofs.KnownBytes.{Consumes-nil, Appends-nil}
 use Rattle.std.specs.Io.{StartsWith}
 use Rattle.std.specs.Io.KnownBytes.{Appends}
 use Rattle.program_streams.proofs.SpaceLemmas.{within}
-use Rattle.program_streams.specs.Transfer.{IsWhole as IsInputWhole, most_taken, TakesBytes as TakesInput}
+use Rattle.program_streams.specs.Transfer.{IsWhole as IsInputWhole, most_taken, TakesBytes as TakesInput, CountsFailure}
+use Rattle.program_streams.specs.declared.transfer.InputFault.{InputFault}
+use Rattle.program_streams.specs.declared.transfer.InputFault.TheVariants as input
 use Rattle.program_runs.specs.Answers.{GivesReply, HasAnswerStatus}
-use Rattle.program_runs.specs.Run.{CountsTaking, Fails, GivesAnswer, IsInBound, IsToldBy, IsWholeInput, never, Runs, TakesInBound}
-use Rattle.program_runs.specs.Run.{TakesDocument, TellsFault, fault_status, nothing_asked}
+use Rattle.program_runs.specs.Run.{CountsUntaken, Fails, GivesAnswer, IsInBound, IsToldBy, IsWholeInput, never, Runs, TakesInBound}
+use Rattle.program_runs.specs.Run.{TakesDocument, TellsFault, fault_status, nothing_asked, untaken_status}
 use Rattle.program_runs.specs.declared.fault.Answer.{Answer}
 use Rattle.program_runs.specs.declared.fault.Fault.{Fault}
 use Rattle.program_runs.specs.declared.fault.Fault.TheVariants as fault
@@ -30,6 +32,12 @@ document_taken old new taken takes (inr end) = ((takes.0, short_in_bound taken t
 pub document_untaken : (old new : Option (List ℕ)) (status : ℕ) → (taken : List ℕ) × TakesInput old new taken
     → TakesDocument never old new (Err status)
 document_untaken old new status taken = (taken.0, (taken.1.0, short_in_bound taken.0 taken.1.1))
+
+-- the status tells what was counted
+pub counts_untaken : (old new status : ℕ) (why : InputFault) → CountsFailure {T = Unit {0}} old new (Err why)
+    → status ≡ untaken_status why → CountsUntaken old new status
+counts_untaken old new status input.Failed counts is = inl (is, counts)
+counts_untaken old new status input.NoMemory counts is = inr (is, counts)
 
 -- ---- what a fault is told by
 
@@ -106,14 +114,14 @@ module _ (IsOutcome : List ℕ → Answer → Type 0) (is_unbounded : List ℕ �
 
   -- the input wasn't taken whole
   pub ends_untaken : (in_old in_new out : Option (List ℕ)) (failed_old failed_new status : ℕ) →
-      TakesDocument is_unbounded in_old in_new (Err status)
-      → CountsTaking failed_old failed_new (Err status) → Runs IsOutcome is_unbounded in_old in_new out out status
+      (taken : List ℕ) × TakesInBound is_unbounded in_old in_new taken
+      → CountsUntaken failed_old failed_new status → Runs IsOutcome is_unbounded in_old in_new out out status
   ends_untaken in_old in_new out failed_old failed_new status takes (inl failed) =
       subst (Runs IsOutcome is_unbounded in_old in_new out out) (sym failed.0) (ends_unread in_old in_new out takes.0 takes.1)
   ends_untaken in_old in_new out failed_old failed_new status takes (inr full) =
       subst (Runs IsOutcome is_unbounded in_old in_new out out) (sym full.0) (ends_without_memory in_old in_new out takes.0 takes.1)
 
-pub fails_untaken : (in_old in_new out status : ℕ) → CountsTaking in_old in_new (Err status) → Fails in_old in_new out out status
+pub fails_untaken : (in_old in_new out status : ℕ) → CountsUntaken in_old in_new status → Fails in_old in_new out out status
 fails_untaken in_old in_new out status (inl failed) = record {
   five = (λ five. inl (omega (arith, failed.1)), λ rose. failed.0);
   once = omega (arith, failed.1);

@@ -1,14 +1,16 @@
 -- What a run over a document does to its streams (this project's own).
-use Rattle.std.specs.Prelude.{◌≡◌, ◌≢◌, ◌≤◌, ◌<◌, ◌+◌, ◌++◌, ◌⊎◌, ◌↔◌, ℕ, Bool, true, false, List, []}
+use Rattle.std.specs.Prelude.{◌≡◌, ◌≢◌, ◌≤◌, ◌<◌, ◌+◌, ◌⊎◌, ◌↔◌, ℕ, Bool, true, false, List, []}
 use Rattle.std.specs.Prelude.{length, Option, Result, Ok, Err, Vec}
 use Rattle.std.specs.declared.alloc.Global.{Global}
 use Rattle.std.specs.Io.{StartsWith}
 use Rattle.std.specs.Io.KnownBytes.{Consumes, Appends, IsAtEnd}
 use Rattle.program_streams.specs.Exits.{status_of}
-use Rattle.program_streams.specs.Spaces.{ends_in_space, KeepsSpace, most_kept_space, space_behind}
+use Rattle.program_streams.specs.Spaces.{ends_in_space, most_kept_space, space_behind}
 use Rattle.program_streams.specs.Transfer.{most_taken, TellsLine}
 use Rattle.program_streams.specs.declared.exit.Exit.{Exit}
 use Rattle.program_streams.specs.declared.exit.Exit.TheVariants as exit
+use Rattle.program_streams.specs.declared.transfer.InputFault.{InputFault}
+use Rattle.program_streams.specs.declared.transfer.InputFault.TheVariants as input
 use Rattle.program_runs.specs.declared.fault.Answer.{Answer}
 use Rattle.program_runs.specs.declared.fault.Fault.{Fault}
 use Rattle.program_runs.specs.declared.run.Program.{Program}
@@ -96,23 +98,25 @@ TakesDocument is_unbounded old new (Ok v) = TakesInBound is_unbounded old new v.
     × IsWholeInput is_unbounded v.items new
 TakesDocument is_unbounded old new (Err status) = (taken : List ℕ) × TakesInBound is_unbounded old new taken
 
--- the rest of the input was taken, and stands behind what had been taken, or as much of it as ends in too much
--- white space; or some of it was
-abbrev pub TakesRestOf : Option (List ℕ) → Option (List ℕ) → List ℕ → Result (Vec ℕ Global) ℕ → Type 0
-TakesRestOf old new before (Ok v) =
-    (taken : List ℕ) × Consumes old new taken × (v.items ≡ before ++ taken)
-    × (IsAtEnd new ⊎ (ends_in_space v.items ≡ true))
-    × KeepsSpace before v.items
-TakesRestOf old new before (Err status) = (taken : List ℕ) × Consumes old new taken
-    × KeepsSpace before (before ++ taken)
+-- the status that a run ends with whose input was not read, and its line
+abbrev pub untaken_status : InputFault → ℕ
+untaken_status input.Failed = 5
+untaken_status input.NoMemory = 4
+
+abbrev pub untaken_line : Program → InputFault → List ℕ
+untaken_line program input.Failed = program.read_failed.now
+untaken_line program input.NoMemory = program.no_memory.now
 
 -- the status is 5 where a read failed, and else that of want of memory
-abbrev pub CountsTaking : ℕ → ℕ → Result (Vec ℕ Global) ℕ → Type 0
+abbrev pub CountsUntaken : ℕ → ℕ → ℕ → Type 0
+CountsUntaken old new status = ((status ≡ 5) × (new ≡ old + 1)) ⊎ ((status ≡ 4) × (new ≡ old))
+
+abbrev pub CountsTaking : {T : Type 0} → ℕ → ℕ → Result T ℕ → Type 0
 CountsTaking old new (Ok v) = new ≡ old
-CountsTaking old new (Err status) = ((status ≡ 5) × (new ≡ old + 1)) ⊎ ((status ≡ 4) × (new ≡ old))
+CountsTaking old new (Err status) = CountsUntaken old new status
 
 -- the failures of the stream of fault lines, which has a line where the input wasn't taken
-abbrev pub TellsUnlessTaken : ℕ → ℕ → Result (Vec ℕ Global) ℕ → Type 0
+abbrev pub TellsUnlessTaken : {T : Type 0} → ℕ → ℕ → Result T ℕ → Type 0
 TellsUnlessTaken old new (Ok v) = new ≡ old
 TellsUnlessTaken old new (Err status) = new ≤ old + 1
 

@@ -10,6 +10,6 @@ mod words;
 
 pub use command::{Command, run_command};
 pub use fault::{Answer, Fault, HistoryFault, LinesFault};
-pub use run::{FSR, Program, give_answer, take_document, take_rest, tell_fault};
+pub use run::{FSR, Program, give_answer, take_document, tell_fault, tell_untaken};
 pub use show::{MOST_BUDGET, Show, budget_of};
 pub use words::words_of;

@@ -1,10 +1,11 @@
 ghost use Rattle.std.specs.Prelude.{◌≡◌, ◌≤◌, ◌+◌};
-ghost use Rattle.program_runs.specs.Run.{CountsTaking, GivesAnswer, never, TakesDocument, TakesRestOf};
-ghost use Rattle.program_runs.specs.Run.{TellsFault, TellsUnlessTaken};
+ghost use Rattle.program_runs.specs.Run.{CountsTaking, GivesAnswer, never, TakesDocument, TellsFault};
+ghost use Rattle.program_runs.specs.Run.{TellsUnlessTaken, untaken_line, untaken_status};
 ghost use Rattle.program_streams.specs.Stream.{HasRoom};
+ghost use Rattle.program_streams.specs.Transfer.{TellsLine};
 
 use crate::{Answer, Fault};
-use program_streams::{Exit, InputFault, Sink, Source, read_input, read_rest, tell, write_text};
+use program_streams::{Exit, InputFault, Sink, Source, read_input, tell, write_text};
 use std::alloc::Global;
 
 /// The name of a program, and the lines that it tells where a stream fails, memory runs out or a thread can't start.
@@ -42,44 +43,27 @@ pub fn take_document<I: Source, E: Sink>(
 {
     match read_input(alloc, input) {
         Ok(bytes) => Ok(bytes),
-        Err(InputFault::Failed) => {
-            tell(faults, program.read_failed);
-            Err(Exit::Stream.status())
-        }
-        Err(InputFault::NoMemory) => {
-            tell(faults, program.no_memory);
-            Err(Exit::NoMemory.status())
-        }
+        Err(fault) => Err(tell_untaken(program, faults, fault)),
     }
 }
 
-/// Reads what is left of the input, behind a front of it, or tells why it was not read and gives the
-/// status that the run ends with.
-pub fn take_rest<I: Source, E: Sink>(
-    program: &Program,
-    front: Vec<u8>,
-    input: &mut I,
-    faults: &mut E,
-) -> Result<Vec<u8>, u8>
-    requires input { HasRoom (I.failed input.old) }
-    requires faults { HasRoom (E.failed faults.old) }
-    ensures taken { TakesRestOf (I.remaining input.old) (I.remaining input.new) front.items result }
-    ensures counts { CountsTaking (I.failed input.old) (I.failed input.new) result }
-    ensures faults { TellsUnlessTaken (E.failed faults.old) (E.failed faults.new) result }
+/// Tells why the input was not read, and gives the status that the run ends with.
+pub fn tell_untaken<E: Sink>(program: &Program, faults: &mut E, fault: InputFault) -> u8
+    requires { HasRoom (E.failed faults.old) }
+    ensures status { result ≡ untaken_status fault }
+    ensures told { TellsLine (E.contents faults.old) (E.contents faults.new) (E.failed faults.old)
+        (E.failed faults.new) (untaken_line program.now fault) }
+    ensures once { E.failed faults.new ≤ E.failed faults.old + 1 }
 {
-    let mut bytes = front;
-    match read_rest(input, &mut bytes) {
-        Ok(()) => Ok(bytes),
-        Err(fault) => match fault {
-            InputFault::Failed => {
-                tell(faults, program.read_failed);
-                Err(Exit::Stream.status())
-            }
-            InputFault::NoMemory => {
-                tell(faults, program.no_memory);
-                Err(Exit::NoMemory.status())
-            }
-        },
+    match fault {
+        InputFault::Failed => {
+            tell(faults, program.read_failed);
+            Exit::Stream.status()
+        }
+        InputFault::NoMemory => {
+            tell(faults, program.no_memory);
+            Exit::NoMemory.status()
+        }
     }
 }
 

@@ -1,4 +1,3 @@
 pub mod ExitLemmas
-pub mod RestLemmas
 pub mod SpaceLemmas
 pub mod TransferLemmas

@@ -18,7 +18,3 @@ ends_in_space bytes = nat_lt max_space (space_behind bytes)
 -- so many are kept at most: a piece of the input may come before they are counted
 abbrev pub most_kept_space : ℕ
 most_kept_space = max_space + 1048577
-
--- behind a text that ends in no more of it than is kept there is no more of it either
-abbrev pub KeepsSpace : List ℕ → List ℕ → Type 0
-KeepsSpace before after = space_behind before ≤ most_kept_space → space_behind after ≤ most_kept_space

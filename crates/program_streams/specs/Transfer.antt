@@ -1,10 +1,9 @@
 -- What reading the input and telling a line do (this project's own).
-use Rattle.std.specs.Prelude.{◌≡◌, ◌<◌, ◌≤◌, ◌+◌, ◌^◌, ◌++◌, ◌⊎◌, ℕ, Bool, true, false, List, length}
+use Rattle.std.specs.Prelude.{◌≡◌, ◌≤◌, ◌+◌, ◌++◌, ◌⊎◌, ℕ, Bool, true, false, List, length}
 use Rattle.std.specs.Prelude.{Option, Result, Ok, Err, Vec, ⊤}
 use Rattle.std.specs.declared.alloc.Global.{Global}
 use Rattle.std.specs.Io.{StartsWith}
 use Rattle.std.specs.Io.KnownBytes.{Appends, Consumes, IsAtEnd}
-use Rattle.program_streams.specs.Spaces.{ends_in_space, KeepsSpace}
 use Rattle.program_streams.specs.declared.transfer.InputFault.{InputFault}
 use Rattle.program_streams.specs.declared.transfer.InputFault.TheVariants.{Failed, NoMemory}
 
@@ -29,20 +28,11 @@ CountsFailure old new (Ok x) = new ≡ old
 CountsFailure old new (Err Failed) = new ≡ old + 1
 CountsFailure old new (Err NoMemory) = new ≡ old
 
--- What was left was taken and added, to the end of the input, or until the bytes ended in more white space than may
--- stand behind a log; or some of it was taken. Of white space that goes on no more was taken than is kept.
-abbrev pub TakesRest : Option (List ℕ) → Option (List ℕ) → List ℕ → List ℕ → Result ⊤ InputFault → Type 0
-TakesRest old new before after (Ok u) =
-    (taken : List ℕ) × Consumes old new taken × (after ≡ before ++ taken) × (IsAtEnd new ⊎ (ends_in_space after ≡ true))
-    × KeepsSpace before after
-TakesRest old new before after (Err e) = (taken : List ℕ) × Consumes old new taken × KeepsSpace before (before ++ taken)
-
--- A piece was taken and added, behind which the input may go on or is at its end; or some of a piece was taken.
-abbrev pub TakesPiece : Option (List ℕ) → Option (List ℕ) → List ℕ → List ℕ → Result Bool InputFault → Type 0
-TakesPiece old new before after (Ok more) =
-    (taken : List ℕ) × Consumes old new taken × (after ≡ before ++ taken) × (length taken ≤ most_taken)
-    × (more ≡ true → (length taken ≡ most_taken) × (length after < 2 ^ 64)) × (more ≡ false → IsAtEnd new)
-TakesPiece old new before after (Err e) = (taken : List ℕ) × Consumes old new taken × (length taken ≤ most_taken)
+-- A piece was taken, behind which the input may go on or is at its end; or some of a piece was taken.
+abbrev pub TakesPiece : Option (List ℕ) → Option (List ℕ) → List ℕ → Result Bool InputFault → Type 0
+TakesPiece old new piece (Ok more) =
+    TakesBytes old new piece × (more ≡ true → length piece ≡ most_taken) × (more ≡ false → IsAtEnd new)
+TakesPiece old new piece (Err e) = (taken : List ℕ) × TakesBytes old new taken
 
 -- Bytes were taken and added, up to the end or until there were so many; or they were taken, and what had come before
 -- stays within the bound with them.

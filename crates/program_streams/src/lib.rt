@@ -12,4 +12,4 @@ pub use exit::Exit;
 pub use probe::can_start;
 pub use space::ends_in_space;
 pub use stream::{Failed, Over, Sink, Source};
-pub use transfer::{InputFault, read_input, read_rest, tell, write_text};
+pub use transfer::{InputFault, read_input, read_piece, tell, write_text};

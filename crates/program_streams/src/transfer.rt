@@ -1,12 +1,10 @@
-ghost use Rattle.std.specs.Prelude.{◌≡◌, ◌<◌, ◌≤◌, ◌+◌, ◌&&◌, not, [], List, ℕ, length, OnOk, OnErr};
+ghost use Rattle.std.specs.Prelude.{◌≡◌, ◌<◌, ◌≤◌, ◌+◌, List, ℕ, length, OnOk, OnErr};
 ghost use Rattle.std.specs.Io.{StartsWith};
 ghost use Rattle.std.specs.Io.KnownBytes.{Appends};
-ghost use Rattle.program_streams.specs.Spaces.{ends_in_space};
 ghost use Rattle.program_streams.specs.Stream.{Counts, HasRoom};
-ghost use Rattle.program_streams.specs.Transfer.{CountsFailure, TakesInput, TakesMore, TakesPiece, TakesRest};
+ghost use Rattle.program_streams.specs.Transfer.{CountsFailure, TakesInput, TakesMore, TakesPiece};
 ghost use Rattle.program_streams.specs.Transfer.{TakesUpTo, TellsLine};
 
-use crate::space::ends_in_space;
 use crate::stream::{Failed, Sink, Source};
 use std::alloc::{AllocError, Global};
 
@@ -36,42 +34,16 @@ pub fn read_input<I: Source>(alloc: Global, input: &mut I) -> Result<Vec<u8>, In
     }
 }
 
-/// Reads what is left of the input, to its end, and adds it to the bytes. It stops where they end in more white space
-/// than may stand behind the last line of a log.
-pub fn read_rest<I: Source>(input: &mut I, bytes: &mut Vec<u8>) -> Result<(), InputFault>
+/// Puts the next piece of the input, as long as the longest that a run reads of a document, in the place of what the
+/// bytes are, and says whether it is whole. Otherwise the input is at its end.
+pub fn read_piece<I: Source>(input: &mut I, bytes: &mut Vec<u8>) -> Result<bool, InputFault>
     requires { HasRoom (I.failed input.old) }
-    ensures taken { TakesRest (I.remaining input.old) (I.remaining input.new) bytes.old.items bytes.new.items result }
+    ensures taken { TakesPiece (I.remaining input.old) (I.remaining input.new) bytes.new.items result }
     ensures counts { CountsFailure (I.failed input.old) (I.failed input.new) result }
 {
-    let mut more = true;
-    'rest: while goes_on(more, bytes.as_slice()) {
-        more = match read_piece(input, bytes) {
-            Ok(more) => more,
-            Err(fault) => return Err(fault),
-        };
-    }
-    Ok(())
-}
-
-/// Whether there may be more to read behind such bytes.
-fn goes_on(more: bool, bytes: &[u8]) -> bool
-    ensures { result ≡ (more && not (ends_in_space bytes.now)) }
-{
-    more && !ends_in_space(bytes)
-}
-
-/// Adds a piece of the input, as long as the longest that a run reads of a document, and says whether it is whole.
-/// Otherwise the input is at its end.
-fn read_piece<I: Source>(input: &mut I, bytes: &mut Vec<u8>) -> Result<bool, InputFault>
-    requires { HasRoom (I.failed input.old) }
-    ensures taken { TakesPiece (I.remaining input.old) (I.remaining input.new) bytes.old.items bytes.new.items result }
-    ensures counts { CountsFailure (I.failed input.old) (I.failed input.new) result }
-{
-    let Some(most) = bytes.len().checked_add(MOST_TAKEN) else {
-        return Err(InputFault::NoMemory);
-    };
-    match read_up_to(input, bytes, most) {
-        Ok(()) => Ok(bytes.len() == most),
+    bytes.clear();
+    match read_up_to(input, bytes, MOST_TAKEN) {
+        Ok(()) => Ok(bytes.len() == MOST_TAKEN),
         Err(fault) => Err(fault),
     }
 }

@@ -1,21 +1,24 @@
 //! Whether the header of a log says that its records repeat.
 ghost use Rattle.std.specs.Prelude.{◌≡◌, IfOk, option_map};
+ghost use Rattle.packed_text.specs.Words.{text_in};
 ghost use Rattle.serde_json.specs.View.{view};
 ghost use Rattle.read_line.specs.Repeats.{has_repeats, is_true, repeats_in, says_repeats};
 
+use packed_text::PackedText;
 use read_document::{DocError, is_kind, read_value};
 use serde_json::Value;
 use std::alloc::{AllocError, Global};
-use text_lines::split_line;
 
 /// Whether the first line of a log is the header of one whose records repeat.
-pub fn has_repeats(alloc: Global, bytes: &[u8]) -> Result<bool, AllocError>
-    ensures { IfOk result (λ has. has ≡ has_repeats bytes.now) }
+pub fn has_repeats(alloc: Global, text: &PackedText) -> Result<bool, AllocError>
+    ensures { IfOk result (λ has. has ≡ has_repeats (text_in text.now)) }
 {
-    match split_line(bytes) {
-        Some((first, _)) => says_repeats(alloc, first),
-        None => Ok(false),
+    if text.codes.is_empty() {
+        return Ok(false);
     }
+    let mut first = Vec::new(alloc);
+    text.next_line(&mut first, text.codes.as_slice())?;
+    says_repeats(alloc, first.as_slice())
 }
 
 /// Whether a line is the header of a log whose records repeat.

@@ -5,3 +5,5 @@
 mod lines;
 #[cfg(test)]
 mod logs;
+#[cfg(test)]
+mod packed;

@@ -3,6 +3,7 @@
 use exchanges_log::read_exchanges;
 use object_core::Operation;
 use object_registers::Exchange;
+use packed_text::PackedText;
 use std::alloc::{AllocError, Global};
 use std::test::Fail;
 
@@ -21,7 +22,7 @@ fn with_header(alloc: Global, line: &str) -> Result<String, AllocError> {
 /// Whether the line is of this operation.
 fn is_of(alloc: Global, line: &str, op: Operation<Exchange>) -> Result<bool, AllocError> {
     let text = with_header(alloc, line)?;
-    match read_exchanges(alloc, text.as_bytes()) {
+    match read_exchanges(alloc, &PackedText::of(alloc, text.as_bytes())?) {
         Ok(log) => Ok(log.ops.as_slice() == [op].as_slice()),
         Err(_) => Ok(false),
     }
@@ -161,7 +162,7 @@ fn refused_writes(rt: HostRuntime) -> Result<(), Fail> {
     ] {
         let alloc = rt.alloc();
         let text = format!(in alloc; "{LIMITED}\n{line}\n")?;
-        match read_exchanges(alloc, text.as_bytes()) {
+        match read_exchanges(alloc, &PackedText::of(alloc, text.as_bytes())?) {
             Ok(log) => {
                 assert!(rt; log.ops.as_slice() == [op].as_slice(), "{line}");
                 assert_eq!(rt; log.limit, Some(2));
@@ -174,7 +175,7 @@ fn refused_writes(rt: HostRuntime) -> Result<(), Fail> {
 
 /// Whether this is told of the text as a log.
 fn is_told(alloc: Global, text: &str, told: &str) -> Result<bool, AllocError> {
-    match read_exchanges(alloc, text.as_bytes()) {
+    match read_exchanges(alloc, &PackedText::of(alloc, text.as_bytes())?) {
         Ok(_) => Ok(false),
         Err(fault) => Ok(format!(in alloc; "{fault}")?.as_str() == told),
     }

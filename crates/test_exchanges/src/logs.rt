@@ -1,6 +1,7 @@
 //! Whole logs: which are such, and their counts.
 
 use exchanges_log::read_exchanges;
+use packed_text::PackedText;
 use read_line::has_repeats;
 use std::alloc::{AllocError, Global};
 use std::test::Fail;
@@ -18,7 +19,8 @@ const HEADERS: &[(&[u8], bool)] = &[
 #[test]
 fn tells_which_repeat(rt: HostRuntime) -> Result<(), Fail> {
     for (place, (header, repeats)) in HEADERS.iter().enumerate() {
-        assert!(rt; has_repeats(rt.alloc(), header)? == *repeats, "row {place}");
+        let text = PackedText::of(rt.alloc(), header)?;
+        assert!(rt; has_repeats(rt.alloc(), &text)? == *repeats, "row {place}");
     }
     Ok(())
 }
@@ -34,7 +36,10 @@ const LOG: &[u8] = br#"{"kind":"lines","opening":0,"repeats":true}
 {"kind":"done","ops":6}"#;
 
 fn counts(alloc: Global, text: &[u8]) -> Option<(usize, usize, usize, usize, bool)> {
-    match read_exchanges(alloc, text) {
+    let Ok(text) = PackedText::of(alloc, text) else {
+        return None;
+    };
+    match read_exchanges(alloc, &text) {
         Ok(log) => Some((
             log.ops.len(),
             log.unfinished,
@@ -55,7 +60,7 @@ fn counts_operations(rt: HostRuntime) {
 /// Whether this is told of a log of these operations.
 fn is_told(alloc: Global, ops: &str, told: &str) -> Result<bool, AllocError> {
     let text = format!(in alloc; "{}{ops}", r#"{"kind":"lines","opening":0,"repeats":true}"#)?;
-    match read_exchanges(alloc, text.as_bytes()) {
+    match read_exchanges(alloc, &PackedText::of(alloc, text.as_bytes())?) {
         Ok(_) => Ok(false),
         Err(fault) => Ok(format!(in alloc; "{fault}")?.as_str() == told),
     }

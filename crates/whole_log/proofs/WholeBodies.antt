@@ -4,7 +4,7 @@ use Rattle.std.proofs.Common.{append_assoc}
 use Rattle.std.specs.Prelude.{option_map}
 use Rattle.std.proofs.lemmas.List.{append-nil}
 use Rattle.history_core.specs.declared.history.Op.{Op}
-use Rattle.text_lines.specs.Splits.{IsSplit, lines_of}
+use Rattle.text_lines.specs.Splits.{lines_of}
 use Rattle.read_line.specs.Lines.{Head, head_of, op_seen}
 use Rattle.record_numbers.specs.Numbered.{AreNumbered}
 use Rattle.kept_lines.specs.Reads.{KnowsReads, WereRead}
@@ -14,7 +14,7 @@ use Rattle.lines_log.specs.Faults.{is_end}
 use Rattle.lines_log.specs.Logs.{AreAll, AreLines, judged_line, LineRule, rule_in, text_of, unfinished_in}
 use Rattle.lines_log.specs.inner.Numbers.{IsNumberedNow}
 use Rattle.lines_log.specs.inner.Readings.{HasRest}
-use Rattle.lines_log.proofs.BodyLemmas.{end_is, ends_last, none_left}
+use Rattle.lines_log.proofs.BodyLemmas.{end_is, ends_last}
 use Rattle.lines_log.proofs.ReadLemmas.{more_lines}
 use Rattle.whole_log.specs.WholeLogs.{IsWholeLog}
 use Rattle.whole_log.specs.inner.WholeReadings.{AreWholeRead, IsWholeBody, IsWholeGiven, IsWholeSoFar, ReadsWholeLine, whole_rule}
@@ -55,16 +55,20 @@ pub begun : (opening : List ℕ) (body : List ℕ) (reader : Reader) → AreWhol
     → IsWholeSoFar opening (whole_rule reader) false (lines_of body) body reader
 begun opening body reader read = record { lines = []; read = read; limits = refl; left = refl }
 
+none_left : (rest line : List ℕ) (lines : List (List ℕ)) → lines_of rest ≡ line ∷ lines → rest ≡ [] → ⊥
+none_left [] line lines split none = cc
+none_left (x ∷ xs) line lines split none = cc
+
 pub one_more : (opening : List ℕ) (rule : LineRule) (before : Bool) (body : List (List ℕ)) (rest line behind : List ℕ) (old new : Reader)
-    (ended : Bool) → IsWholeSoFar opening rule before body rest old → IsSplit rest line behind
+    (ended : Bool) → IsWholeSoFar opening rule before body rest old → lines_of rest ≡ line ∷ lines_of behind
     → ((lines : List (List ℕ)) → AreWholeRead opening lines old → ReadsWholeLine opening lines line (is_end behind) old new ended)
     → whole_rule new ≡ whole_rule old → IsWholeSoFar opening rule ended body behind new
 one_more opening rule before body rest line behind old new ended way split reads same =
     by_line ended (at_line before way.left) (reads way.lines way.read)
   where
     at_line : (b : Bool) → HasRest rule b body way.lines rest → body ≡ way.lines ++ line ∷ lines_of behind
-    at_line false going = going ∙ ap (λ (l : List (List ℕ)). way.lines ++ l) split.lines
-    at_line true over = absurd (none_left rest line behind split over.0)
+    at_line false going = going ∙ ap (λ (l : List (List ℕ)). way.lines ++ l) split
+    at_line true over = absurd (none_left rest line (lines_of behind) split over.0)
 
     by_line : (b : Bool) → body ≡ way.lines ++ line ∷ lines_of behind → ReadsWholeLine opening way.lines line (is_end behind) old new b
         → IsWholeSoFar opening rule b body behind new
@@ -101,8 +105,9 @@ all_read opening rule ended body rest reader none way = record {
 
 -- what was read is the log
 pub assembled : (bytes text first body : List ℕ) (head : Head) (ended : Bool) (reader : Reader) (log : WholeLog)
-    → text ≡ text_of bytes → IsSplit text first body → head_of first ≡ Ok head → whole_rule reader ≡ rule_in head (lines_of body)
-    → IsWholeBody head.opening (lines_of body) reader ended → IsWholeGiven ended reader log → IsWholeLog bytes log
+    → text ≡ text_of bytes → lines_of text ≡ first ∷ lines_of body → head_of first ≡ Ok head
+    → whole_rule reader ≡ rule_in head (lines_of body) → IsWholeBody head.opening (lines_of body) reader ended
+    → IsWholeGiven ended reader log → IsWholeLog bytes log
 assembled bytes text first body head ended reader log is_text split said rule whole given =
     let records = whole.read.records in
     let ops : log.ops.items ≡ reader.ops.items = ap (λ v. v.items) given.ops in
@@ -115,7 +120,7 @@ assembled bytes text first body head ended reader log is_text split said rule wh
         header = first;
         body = lines_of body;
         lines = whole.lines;
-        split = ap lines_of (sym is_text) ∙ split.lines;
+        split = ap lines_of (sym is_text) ∙ split;
         said = said;
         ended = ended;
         all = subst (λ (b : LineRule). AreAll b ended (lines_of body) whole.lines) rule whole.all;

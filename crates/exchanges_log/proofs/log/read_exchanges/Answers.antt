@@ -1,27 +1,64 @@
 -- The header and the body were read.
-use Rattle.std.proofs.Common.{◌∙◌, string_bytes}
+use Rattle.std.proofs.Common.{◌∙◌, ◌≡◌, true, false, ap, inl, inr, string_bytes, sym}
 use Rattle.text_lines.specs.Splits.{lines_of}
+use Rattle.lines_log.specs.Faults.{is_end}
+use Rattle.lines_log.specs.Logs.{text_of}
+use Rattle.packed_text.specs.Words.{text_in, told}
 use Rattle.read_line.specs.Lines.{head_seen}
 use Rattle.exchanges_log.specs.inner.ExchangeReadings.{rule_of}
+use Rattle.lines_log.proofs.PackedLemmas.{next_of, nothing_told, told_text}
 use Rattle.exchanges_log.proofs.WholeLemmas.{assembled, header_fault, later_fault, same_rule}
 use Rattle.exchanges_log.proofs.log.read_exchanges.Goals as goal
 
+pub returns-then-is_end-clause-fault : goal.returns-then-is_end-clause-fault
+returns-then-is_end-clause-fault c =
+    let over : is_end c.text_of-codes.result.now ≡ true = sym c.is_end.ensures ∙ c.if-is_end.true in
+    let is_text : told c.args.text.now.packed c.text_of-codes.result.now ≡ text_of (text_in c.args.text.now) =
+    ap (told c.args.text.now.packed) (c.text_of-codes.ensures ∙ ap text_of c.as_slice.ensures.value)
+    ∙ told_text c.args.text.now.packed c.args.text.now.codes.items in
+    inr (inl (sym is_text ∙ nothing_told c.args.text.now.packed c.text_of-codes.result.now over, c.refused_at.ensures))
+
+pub returns-in-Err-read_header-clause-fault : goal.returns-in-Err-read_header-clause-fault
+returns-in-Err-read_header-clause-fault c =
+    let more : is_end c.text_of-codes.result.now ≡ false = sym c.is_end.ensures ∙ c.if-is_end.false in
+    let is_text : told c.args.text.now.packed c.text_of-codes.result.now ≡ text_of (text_in c.args.text.now) =
+    ap (told c.args.text.now.packed) (c.text_of-codes.ensures ∙ ap text_of c.as_slice.ensures.value)
+    ∙ told_text c.args.text.now.packed c.args.text.now.codes.items in
+    header_fault (text_in c.args.text.now) (told c.args.text.now.packed c.text_of-codes.result.now) c.as_slice-2.result.now
+    (told c.args.text.now.packed c.in-Ok.body.now) c.in-Err-read_header.why c.refused_at-in-Err-read_header.result is_text
+    (next_of c.args.text.now.packed c.text_of-codes.result.now c.next_line.new.line.items c.in-Ok.body.now c.as_slice-2.result.now
+    c.in-Ok.ensures more c.as_slice-2.ensures.value)
+    c.in-Err-read_header.ensures c.refused_at-in-Err-read_header.ensures
+
+pub returns-clause-fault : goal.returns-clause-fault
+returns-clause-fault c =
+    let more : is_end c.text_of-codes.result.now ≡ false = sym c.is_end.ensures ∙ c.if-is_end.false in
+    let is_text : told c.args.text.now.packed c.text_of-codes.result.now ≡ text_of (text_in c.args.text.now) =
+    ap (told c.args.text.now.packed) (c.text_of-codes.ensures ∙ ap text_of c.as_slice.ensures.value)
+    ∙ told_text c.args.text.now.packed c.args.text.now.codes.items in
+    later_fault (text_in c.args.text.now) (told c.args.text.now.packed c.text_of-codes.result.now) c.as_slice-2.result.now
+    (told c.args.text.now.packed c.in-Ok.body.now) (head_seen c.in-Ok-read_header.header)
+    (rule_of c.in-Ok-new.reader) c.in-Err-read_body.fault is_text
+    (next_of c.args.text.now.packed c.text_of-codes.result.now c.next_line.new.line.items c.in-Ok.body.now c.as_slice-2.result.now
+    c.in-Ok.ensures more c.as_slice-2.ensures.value)
+    c.in-Ok-read_header.ensures
+    (same_rule (head_seen c.in-Ok-read_header.header) (lines_of (told c.args.text.now.packed c.in-Ok.body.now)) _ _
+    c.in-Ok-new.ensures.rule c.in-Ok-first_key.ensures)
+    (c.in-Err-read_body.ensures.fault (string_bytes c.in-Ok-read_header.header.opening) c.in-Ok-new.ensures.read)
+
 pub returns-in-Ok-read_body-clause-log : goal.returns-in-Ok-read_body-clause-log
 returns-in-Ok-read_body-clause-log c =
-    assembled c.args.bytes.now c.text_of-text.result.now c.in-Some.first.now c.in-Some.body.now (head_seen c.in-Ok.header)
-    c.in-Ok-read_body.ended c.read_body.new.reader c.finish.result c.text_of-text.ensures c.in-Some.ensures c.in-Ok.ensures
+    let more : is_end c.text_of-codes.result.now ≡ false = sym c.is_end.ensures ∙ c.if-is_end.false in
+    let is_text : told c.args.text.now.packed c.text_of-codes.result.now ≡ text_of (text_in c.args.text.now) =
+    ap (told c.args.text.now.packed) (c.text_of-codes.ensures ∙ ap text_of c.as_slice.ensures.value)
+    ∙ told_text c.args.text.now.packed c.args.text.now.codes.items in
+    assembled (text_in c.args.text.now) (told c.args.text.now.packed c.text_of-codes.result.now) c.as_slice-2.result.now
+    (told c.args.text.now.packed c.in-Ok.body.now) (head_seen c.in-Ok-read_header.header)
+    c.in-Ok-read_body.ended c.read_body.new.reader c.finish.result is_text
+    (next_of c.args.text.now.packed c.text_of-codes.result.now c.next_line.new.line.items c.in-Ok.body.now c.as_slice-2.result.now
+    c.in-Ok.ensures more c.as_slice-2.ensures.value)
+    c.in-Ok-read_header.ensures
     (c.in-Ok-read_body.ensures.rule
-    ∙ same_rule (head_seen c.in-Ok.header) (lines_of c.in-Some.body.now) _ _ c.in-Ok-new.ensures.rule c.in-Ok-first_key.ensures)
-    (c.in-Ok-read_body.ensures.read (string_bytes c.in-Ok.header.opening) c.in-Ok-new.ensures.read) c.finish.ensures
-
-pub returns-in-Err-clause-fault : goal.returns-in-Err-clause-fault
-returns-in-Err-clause-fault c =
-    header_fault c.args.bytes.now c.text_of-text.result.now c.in-Some.first.now c.in-Some.body.now c.in-Err.why
-    c.refused_at-in-Err.result c.text_of-text.ensures c.in-Some.ensures c.in-Err.ensures c.refused_at-in-Err.ensures
-
-pub returns-in-Err-read_body-clause-fault : goal.returns-in-Err-read_body-clause-fault
-returns-in-Err-read_body-clause-fault c =
-    later_fault c.args.bytes.now c.text_of-text.result.now c.in-Some.first.now c.in-Some.body.now (head_seen c.in-Ok.header)
-    (rule_of c.in-Ok-new.reader) c.in-Err-read_body.fault c.text_of-text.ensures c.in-Some.ensures c.in-Ok.ensures
-    (same_rule (head_seen c.in-Ok.header) (lines_of c.in-Some.body.now) _ _ c.in-Ok-new.ensures.rule c.in-Ok-first_key.ensures)
-    (c.in-Err-read_body.ensures.fault (string_bytes c.in-Ok.header.opening) c.in-Ok-new.ensures.read)
+    ∙ same_rule (head_seen c.in-Ok-read_header.header) (lines_of (told c.args.text.now.packed c.in-Ok.body.now)) _ _
+    c.in-Ok-new.ensures.rule c.in-Ok-first_key.ensures)
+    (c.in-Ok-read_body.ensures.read (string_bytes c.in-Ok-read_header.header.opening) c.in-Ok-new.ensures.read) c.finish.ensures

@@ -5,7 +5,7 @@ use Rattle.text_lines.specs.Splits.{lines_of}
 use Rattle.fsr_coherent_answers.proofs.lines.body_lines.Given as goal
 
 abbrev pub invariant-lines : goal.invariant-lines
-invariant-lines l = body_of l.bytes ≡ map (λ line. line.now) l.lines.items ++ lines_of l.rest
+invariant-lines l = body_of l.codes ≡ map (λ line. line.now) l.lines.items ++ lines_of l.rest
 
 abbrev pub decreases-lines : goal.decreases-lines
 decreases-lines l = length l.rest

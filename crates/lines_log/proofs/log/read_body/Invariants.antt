@@ -1,13 +1,14 @@
 -- The lines so far were read, and each took a byte of the text at least.
 use Rattle.std.proofs.Common.{◌≡◌, ◌+◌, ◌≤◌, ℕ, List, [], length}
 use Rattle.lines_log.specs.inner.Readings.{AreRead, IsPartlyRead, rule_of}
+use Rattle.packed_text.specs.Words.{told}
 use Rattle.text_lines.specs.Splits.{lines_of}
 use Rattle.lines_log.proofs.log.read_body.Given as goal
 
 abbrev pub invariant-lines : goal.invariant-lines
 invariant-lines l = record {
   way : (opening : List ℕ) → AreRead opening [] l.initial.reader →
-      IsPartlyRead opening (rule_of l.initial.reader) l.ended (lines_of l.body) l.rest l.reader;
+      IsPartlyRead opening (rule_of l.initial.reader) l.ended (lines_of (told l.text.packed l.body)) (told l.text.packed l.rest) l.reader;
   limits : rule_of l.reader ≡ rule_of l.initial.reader;
   room : l.reader.count + length l.rest ≤ l.initial.reader.count + length l.body;
 }

@@ -5,5 +5,5 @@ use Rattle.memory_answers.proofs.answers.order.Goals as goal
 
 pub returns : goal.returns
 returns c =
-    answers (IsOrderAnswer c.args.show c.args.document.now) c.order-reply.result _ _ _ _
-    c.order-reply.ensures c.hand_out.ensures
+    answers (IsOrderAnswer c.args.show c.args.document.now) c.order_bytes-reply.result _ _ _ _
+    c.order_bytes-reply.ensures c.hand_out.ensures

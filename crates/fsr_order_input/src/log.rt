@@ -1,0 +1,28 @@
+//! A log, by its kind.
+ghost use Rattle.std.specs.Prelude.{◌≡◌, IfOk};
+ghost use Rattle.fsr_order_input.specs.Inputs.{input_text, IsByKind};
+
+use packed_text::PackedText;
+use read_document::are_lines;
+use std::alloc::{AllocError, Global};
+
+/// The input of the command `order`.
+#[derive(Drop)]
+pub enum LogInput {
+    /// A log in lines, packed.
+    Lines(PackedText),
+    /// Any other document, by its bytes.
+    Document(Vec<u8>),
+}
+
+/// These bytes as the input of the command `order`.
+pub fn log_input(alloc: Global, bytes: &[u8]) -> Result<LogInput, AllocError>
+    ensures text { IfOk result (λ log. input_text log ≡ bytes.now) }
+    ensures kind { IfOk result IsByKind }
+{
+    if are_lines(alloc, bytes)? {
+        Ok(LogInput::Lines(PackedText::of(alloc, bytes)?))
+    } else {
+        Ok(LogInput::Document(bytes.to_vec(alloc)?))
+    }
+}
