@@ -416,15 +416,22 @@ if [ -c /dev/full ]; then
     ends_picture "picture into a full output" examples/lawful.json /dev/full 5 "picture: write failed"
 fi
 
-# The programs for documents and for logs in lines whose records don't repeat answer the examples of theirs as `fsr order` does; the other
-# examples are refused, a document for its kind, and a log that repeats for its header.
+# The programs for documents and for logs in lines of one key whose records don't repeat answer the examples of theirs as `fsr order` does;
+# the other examples are refused, a document for its kind, a log that repeats for its header, and one of several keys for the first other key.
+#   other_key FILE     the first line of a log whose key isn't that of the first operation
+other_key() {
+    awk 'NR > 1 { found = match($0, /"key":"[^"]*"/) ? substr($0, RSTART, RLENGTH) : "" }
+        NR == 2 { first = found }
+        NR > 2 && !/"done"/ && found != first { print NR; exit }' "$1"
+}
+
 answers_once() {
     title="fsr_log, fsr_once and fsr order on the examples"
     if ! has_program fsr || ! has_program fsr_log || ! has_program fsr_once; then
         fail "$title" "fsr, fsr_log or fsr_once wasn't built"
         return
     fi
-    different='' refused=0
+    different='' refused=0 keyed=0
     for document in examples/*.json examples/*.jsonl; do
         { "$built/fsr/out/fsr" order <"$document" 2>&1; echo $?; } >"$room/wanted"
         case $document in
@@ -437,13 +444,20 @@ answers_once() {
             if head -n 1 "$document" | grep -q '"repeats":true'; then
                 refused=$((refused + 1))
                 printf 'fsr: line 1: law of repeats; `fsr order` without `--coherent` takes it\n3\n' >"$room/wanted"
+            elif grep -q '"key"' "$document"; then
+                keyed=$((keyed + 1))
+                printf 'fsr: line %s: law of key\n3\n' "$(other_key "$document")" >"$room/wanted"
             fi
             ;;
         esac
         { "$built/fsr_once/out/fsr_once" <"$document" 2>&1; echo $?; } >"$room/out"
         cmp -s "$room/out" "$room/wanted" || different="$different $document"
     done
-    if [ -z "$different" ] && [ "$refused" -gt 1 ]; then pass "$title"; else fail "$title" "$refused repeat, and it differs on:$different"; fi
+    if [ -z "$different" ] && [ "$refused" -gt 1 ] && [ "$keyed" -gt 0 ]; then
+        pass "$title"
+    else
+        fail "$title" "$refused repeat, $keyed have several keys, and it differs on:$different"
+    fi
 }
 
 # Bytes that are no document are refused alike by each program, by whichever of them `./fsr` takes for their first line.
@@ -473,6 +487,7 @@ make_stub fsr_once <<'STUB'
 exec crates/fsr/out/fsr order
 STUB
 catches "a log that repeats, answered" "examples/lines_cas.jsonl" over_stubs answers_once
+catches "a log of several keys, answered" "examples/lines_keys.jsonl" over_stubs answers_once
 make_stub fsr_once <<'STUB'
 cat >/dev/null && echo 'fsr: line 1: not JSON' >&2 && exit 3
 STUB
@@ -541,8 +556,9 @@ answers_small() {
     fi
 }
 
-# A document and a log in lines whose records don't repeat have programs of their own. Each is known by its first line, unless that doesn't
-# tell, as where a key of another log is written with a backslash; of what isn't read from the beginning of a file no line is looked at.
+# A document and a log in lines whose records don't repeat have programs of their own, but for small logs and several keys. Each is known by
+# its first line, unless that doesn't tell, as where a key of another log is written with a backslash; of what isn't read from the beginning
+# of a file no line is looked at.
 answers_small 0 "once " "$room/stale.jsonl" order "$room/stale.jsonl"
 answers_small 0 "once --strict" "$room/stale.jsonl" order --strict
 answers_small 0 "log " examples/lawful.json order
@@ -559,7 +575,9 @@ sed 's/"repeats"/"rep\\u0065ats"/' examples/lines_cas.jsonl >"$room/spelt.jsonl"
 printf '{"kind":"lines","opening":0,"kind":"log"}\n' >"$room/twice.json"
 printf '{"kind":"log","opening":{"kind":"lines"}}\n' >"$room/inner.json"
 printf '{"kind":"lines","k\\u0069nd":"log"}\n' >"$room/other.json"
-for document in examples/lines_cas.jsonl "$room/spelt.jsonl" "$room/twice.json" "$room/inner.json" "$room/other.json"; do
+sed 's/"key"/"ke\\u0079"/' examples/lines_keys.jsonl >"$room/spelt_key.jsonl"
+gives_unbuilt 70 '' 'build: ' order --small "$room/stale.jsonl"
+for document in examples/lines_keys.jsonl "$room/spelt_key.jsonl" examples/lines_cas.jsonl "$room/spelt.jsonl" "$room/twice.json" "$room/inner.json" "$room/other.json"; do
     gives_unbuilt 70 '' 'build: ' order "$document"
 done
 gives_unbuilt 70 '' 'build: ' order --budget 9 examples/lawful.json
@@ -576,6 +594,12 @@ for program in fsr_once fsr_log; do
 done
 sed -i.kept 's/"kind"\.\*"kind"/"kind".*"other"/' "$room/bare/fsr"
 catches "a second kind in a header, unseen" "it ended with status 0" gives_unbuilt 70 '' 'build: ' order "$room/twice.json"
+mv "$room/bare/fsr.kept" "$room/bare/fsr"
+sed -i.kept 's/ && ! may_have_key "$1"//' "$room/bare/fsr"
+catches "keys that aren't looked for" "it ended with status 0" gives_unbuilt 70 '' 'build: ' order examples/lines_keys.jsonl
+mv "$room/bare/fsr.kept" "$room/bare/fsr"
+sed -i.kept 's/ | fsr_once:--small)/)/' "$room/bare/fsr"
+catches "a small log of a program that makes none" "it ended with status 0" gives_unbuilt 70 '' 'build: ' order --small "$room/stale.jsonl"
 mv "$room/bare/fsr.kept" "$room/bare/fsr"
 
 # A program that answers all logs is taken where it is built.

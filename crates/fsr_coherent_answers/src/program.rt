@@ -2,7 +2,7 @@
 ghost use Rattle.std.specs.Prelude.{◌≡◌, ◌≤◌, ◌+◌, IfOk};
 ghost use Rattle.program_runs.specs.Answers.{GivesReply, HasAnswerStatus};
 ghost use Rattle.program_runs.specs.Run.{Fails, IsToldBy, Runs};
-ghost use Rattle.read_document.specs.Kinds.{are_lines};
+ghost use Rattle.fsr_order_input.specs.Kinds.{are_lines};
 ghost use Rattle.fsr_coherent_answers.specs.CoherenceAnswers.{IsCoherenceAnswer};
 ghost use Rattle.program_streams.specs.Stream.{HasRoom};
 

@@ -1,5 +1,5 @@
-//! `fsr_once`: `fsr order` alone, of logs in lines whose records are written once: it is built without what other logs
-//! need. It takes one of the words of `fsr order`.
+//! `fsr_once`: `fsr order` alone, of logs in lines of one key whose records are written once: it is built without what
+//! other logs and small logs need. It takes one of the other words of `fsr order`.
 #![tactic(auto)]
 
 use fsr_once_answers::run;
@@ -14,10 +14,10 @@ fn main(rt: HostRuntime) -> ExitCode {
         Ok(words) => words,
         Err(status) => return ExitCode::from(status),
     };
-    let Some(show) = show_of(words.as_slice()) else {
+    let Some(show) = show_of(words.as_slice()).filter(|show| !show.small) else {
         tell(
             &mut faults,
-            "fsr_once: takes --order, --small, --strict or --budget N, and the document on standard input\n",
+            "fsr_once: takes --order, --strict or --budget N, and the document on standard input\n",
         );
         return ExitCode::from(Exit::NoCommand.status());
     };

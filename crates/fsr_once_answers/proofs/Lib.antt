@@ -1,4 +1,2 @@
-mod KeysLemmas
-pub mod StatusLemmas
-pub mod SmallStatusLemmas
 pub mod OnceLemmas
+pub mod StatusLemmas

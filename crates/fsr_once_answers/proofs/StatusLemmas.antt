@@ -9,7 +9,7 @@ use Rattle.program_runs.specs.declared.show.Show.{Show}
 use Rattle.history_core.specs.declared.thinned.LogAnswer.{LogAnswer}
 use Rattle.history_core.specs.declared.thinned.LogAnswer.TheVariants.{Lawful, Unlawful}
 use Rattle.fsr_once_answers.specs.LinesAnswers.{IsLinesAnswer, lawful_exit, status_of}
-use Rattle.print_once.specs.Text.{shows_little}
+use Rattle.print_reasons.specs.LogText.{shows_little}
 
 abbrev IsOfAnswer : ℕ → Type 0
 IsOfAnswer status = (status ≤ 1) ⊎ (status ≡ 8)

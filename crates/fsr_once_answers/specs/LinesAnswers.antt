@@ -14,7 +14,7 @@ use Rattle.lines_log.specs.Faults.{IsLinesFault}
 use Rattle.lines_log.specs.Logs.{IsLinesLog}
 use Rattle.kept_lines.specs.declared.lines_log.LinesLog.{LinesLog}
 use Rattle.thinned_search.specs.Limits.{IsCounted}
-use Rattle.print_once.specs.Text.{lines_text, shows_little}
+use Rattle.print_reasons.specs.LogText.{lines_text, shows_little}
 
 -- how a run ends that found a lawful order: if it is strict, by whether the log shows little
 abbrev pub lawful_exit : Bool → Bool → Exit

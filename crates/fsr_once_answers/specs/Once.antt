@@ -1,4 +1,5 @@
--- The answer to a log in lines whose records are written once, and to any other document (this project's own).
+-- The answer to a log in lines of one key whose records are written once, and to any other document (this project's
+-- own).
 use Rattle.std.specs.Prelude.{◌≡◌, ℕ, List, Bool, true, false, Result, Ok, Err}
 use Rattle.lines_log.specs.Faults.{refused_at}
 use Rattle.program_runs.specs.declared.fault.Answer.{Answer}
@@ -6,18 +7,19 @@ use Rattle.program_runs.specs.declared.fault.Fault.{Fault}
 use Rattle.program_runs.specs.declared.fault.Fault.TheVariants as fault
 use Rattle.program_runs.specs.declared.fault.LinesFault.TheVariants.{Headless}
 use Rattle.program_runs.specs.declared.show.Show.{Show}
-use Rattle.read_document.specs.Kinds.{are_lines}
+use Rattle.fsr_order_input.specs.Kinds.{are_lines}
 use Rattle.read_document.specs.declared.key.Key.TheVariants.{Repeats}
 use Rattle.read_document.specs.declared.refusal.DocError.{DocError}
 use Rattle.read_document.specs.declared.refusal.DocError.TheVariants as doc
 use Rattle.read_line.specs.Lines.{Head, head_of}
 use Rattle.read_line.specs.Repeats.{has_repeats}
-use Rattle.fsr_once_answers.specs.ByKeys.{IsAnswerByKeys}
+use Rattle.fsr_once_answers.specs.LinesAnswers.{IsLinesAnswer}
 
--- the answer to a log in lines by whether its records repeat: then its header is refused
+-- the answer to a log in lines by whether its records repeat: then its header is refused. So is an operation of another
+-- key than the first.
 abbrev pub IsOnceInLines : Show → Bool → List ℕ → Result Answer Fault → Type 0
 IsOnceInLines show true bytes reply = reply ≡ Err (refused_at 1 (doc.Law Repeats))
-IsOnceInLines show false bytes reply = IsAnswerByKeys show bytes reply
+IsOnceInLines show false bytes reply = IsLinesAnswer show bytes reply
 
 -- how it is told that bytes are no document, or one of another kind
 abbrev pub other_fault : DocError → Fault
@@ -39,6 +41,6 @@ abbrev pub IsOnceBy : Show → Bool → List ℕ → Result Answer Fault → Typ
 IsOnceBy show true bytes reply = IsOnceInLines show (has_repeats bytes) bytes reply
 IsOnceBy show false bytes reply = IsOtherDocument bytes reply
 
--- the answer to the bytes of a log in lines whose records are written once, or the refusal of what is none
+-- the answer to the bytes of a log in lines of one key whose records are written once, or the refusal of what is none
 abbrev pub IsAnswerOnce : Show → List ℕ → Result Answer Fault → Type 0
 IsAnswerOnce show bytes reply = IsOnceBy show (are_lines bytes) bytes reply

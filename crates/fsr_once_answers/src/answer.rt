@@ -11,7 +11,7 @@ use history_core::{Items, LogAnswer};
 use kept_lines::LinesLog;
 use lines_log::read_lines;
 use packed_text::PackedText;
-use print_once::{lines_text, shows_little};
+use print_reasons::{lines_text, shows_little};
 use program_runs::{Answer, Fault, Show};
 use program_streams::Exit;
 use std::alloc::{AllocError, Global};
@@ -94,7 +94,8 @@ fn exit_of(strict: bool, log: &LinesLog, found: &LogAnswer) -> Exit
     }
 }
 
-pub(crate) fn lawful_exit(strict: bool, little: bool) -> Exit
+/// How a run ends that found a lawful order.
+pub fn lawful_exit(strict: bool, little: bool) -> Exit
     ensures { result ≡ lawful_exit strict little }
 {
     if strict && little {

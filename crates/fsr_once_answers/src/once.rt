@@ -6,7 +6,7 @@ ghost use Rattle.fsr_once_answers.specs.Once.{IsAnswerOnce, IsOnceInLines, IsOth
 ghost use Rattle.fsr_order_input.specs.Inputs.{input_text, IsByKind};
 ghost use Rattle.packed_text.specs.Words.{text_in};
 
-use crate::by_keys::order_by_keys;
+use crate::answer::order_lines;
 use fsr_order_input::LogInput;
 use lines_log::refused_at;
 use packed_text::PackedText;
@@ -18,8 +18,9 @@ use std::alloc::Global;
 /// The line of the header.
 const HEADER: usize = 1;
 
-/// The answer of the command `order` to a log in lines that writes each record once: a lawful order of it, or the
-/// reason why there is none. It is refused if its records repeat, and any other document for its kind.
+/// The answer of the command `order` to a log in lines of one key that writes each record once: a lawful order of it,
+/// or the reason why there is none. It is refused if its records repeat or it has several keys, and any other document
+/// for its kind. No small log is made.
 pub fn order_once(alloc: Global, show: Show, log: &LogInput) -> Result<Answer, Fault>
     requires { IsByKind log.now }
     ensures { GivesReply (IsAnswerOnce show (input_text log.now)) result }
@@ -38,7 +39,7 @@ fn order_in_lines(alloc: Global, show: Show, packed: &PackedText) -> Result<Answ
     if repeats {
         Err(refused_at(HEADER, DocError::Law(Key::Repeats)))
     } else {
-        order_by_keys(alloc, show, packed)
+        order_lines(alloc, show, packed)
     }
 }
 

@@ -1,6 +1,6 @@
 ghost use Rattle.std.specs.Prelude.{◌≤◌, ◌+◌};
 ghost use Rattle.program_runs.specs.Run.{Fails, IsToldBy, Runs};
-ghost use Rattle.read_document.specs.Kinds.{are_lines};
+ghost use Rattle.fsr_order_input.specs.Kinds.{are_lines};
 ghost use Rattle.fsr_once_answers.specs.Once.{IsAnswerOnce};
 ghost use Rattle.program_streams.specs.Stream.{HasRoom};
 

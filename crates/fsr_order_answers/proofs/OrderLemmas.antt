@@ -4,10 +4,10 @@ use Rattle.program_runs.specs.Answers.{GivesReply, HasAnswerStatus}
 use Rattle.program_runs.specs.declared.fault.Answer.{Answer}
 use Rattle.program_runs.specs.declared.fault.Fault.{Fault}
 use Rattle.program_runs.specs.declared.show.Show.{Show}
-use Rattle.read_document.specs.Kinds.{are_lines}
+use Rattle.fsr_order_input.specs.Kinds.{are_lines}
 use Rattle.read_line.specs.Repeats.{has_repeats}
 use Rattle.fsr_log_answers.proofs.LogLemmas.{low_log}
-use Rattle.fsr_once_answers.proofs.OnceLemmas.{status_by_keys}
+use Rattle.fsr_keys_answers.proofs.ByKeysLemmas.{status_by_keys}
 use Rattle.fsr_repeats_answers.proofs.ExchangesLemmas.{low_exchanges}
 use Rattle.fsr_order_answers.specs.Order.{IsAnswerBy, IsAnswerInLines, IsOrderAnswer}
 

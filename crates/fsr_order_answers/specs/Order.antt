@@ -3,9 +3,9 @@ use Rattle.std.specs.Prelude.{ℕ, List, Bool, true, false, Result}
 use Rattle.program_runs.specs.declared.fault.Answer.{Answer}
 use Rattle.program_runs.specs.declared.fault.Fault.{Fault}
 use Rattle.program_runs.specs.declared.show.Show.{Show}
-use Rattle.read_document.specs.Kinds.{are_lines}
+use Rattle.fsr_order_input.specs.Kinds.{are_lines}
 use Rattle.read_line.specs.Repeats.{has_repeats}
-use Rattle.fsr_once_answers.specs.ByKeys.{IsAnswerByKeys}
+use Rattle.fsr_keys_answers.specs.ByKeys.{IsAnswerByKeys}
 use Rattle.fsr_log_answers.specs.Logs.{IsLogAnswer}
 use Rattle.fsr_repeats_answers.specs.Exchanges.{IsExchangesAnswer}
 

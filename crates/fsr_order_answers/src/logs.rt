@@ -5,8 +5,8 @@ ghost use Rattle.fsr_order_answers.specs.Order.{IsAnswerInLines, IsOrderAnswer};
 ghost use Rattle.fsr_order_input.specs.Inputs.{input_text, IsByKind};
 ghost use Rattle.packed_text.specs.Words.{text_in};
 
+use fsr_keys_answers::order_by_keys;
 use fsr_log_answers::order_document;
-use fsr_once_answers::order_by_keys;
 use fsr_order_input::{LogInput, log_input};
 use fsr_repeats_answers::order_exchanges;
 use packed_text::PackedText;

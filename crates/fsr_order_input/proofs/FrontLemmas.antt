@@ -6,7 +6,8 @@ use Rattle.read_document.specs.Document.{json_of, max_bytes, value_of}
 use Rattle.read_document.specs.Refusals.{◌>>=◌, must, some_or}
 use Rattle.read_document.specs.declared.refusal.DocError.TheVariants.{Long, NotJson}
 use Rattle.text_lines.specs.Splits.{in_front, lines_of}
-use Rattle.read_document.specs.Kinds.{are_lines, first_is_header, is_header, says_lines}
+use Rattle.read_document.specs.Kinds.{is_header, says_lines}
+use Rattle.fsr_order_input.specs.Kinds.{are_lines, first_is_header}
 
 -- a front and what more comes have one first line, or the front is a part of the first line
 abbrev Begins : List ℕ → List ℕ → Type 0

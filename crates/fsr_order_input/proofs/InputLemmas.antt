@@ -10,7 +10,7 @@ use Rattle.program_streams.specs.Transfer.{most_taken}
 use Rattle.program_streams.specs.declared.transfer.InputFault.{InputFault}
 use Rattle.program_runs.specs.Run.{IsInBound, IsWholeInput, never, TakesInBound}
 use Rattle.read_document.specs.Document.{max_bytes}
-use Rattle.read_document.specs.Kinds.{are_lines}
+use Rattle.fsr_order_input.specs.Kinds.{are_lines}
 use Rattle.fsr_order_input.proofs.FrontLemmas.{front_decides}
 use Rattle.fsr_order_input.specs.Inputs.{TakesLog}
 use Rattle.fsr_order_input.specs.inner.Inputs.{KeepsSpace, TakesBehind, TakesLines}

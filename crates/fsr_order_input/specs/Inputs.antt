@@ -2,7 +2,7 @@
 use Rattle.std.specs.Prelude.{◌≡◌, ℕ, true, false, List, Option, Result, Ok, Err}
 use Rattle.packed_text.specs.Words.{text_in}
 use Rattle.program_runs.specs.Run.{IsWholeInput, TakesInBound}
-use Rattle.read_document.specs.Kinds.{are_lines}
+use Rattle.fsr_order_input.specs.Kinds.{are_lines}
 use Rattle.fsr_order_input.specs.declared.log.LogInput.{LogInput}
 use Rattle.fsr_order_input.specs.declared.log.LogInput.TheVariants.{Lines, Document}
 

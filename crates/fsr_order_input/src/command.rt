@@ -6,7 +6,7 @@ ghost use Rattle.program_runs.specs.Run.{Fails, IsToldBy, Runs};
 ghost use Rattle.program_runs.specs.declared.fault.Answer.{Answer};
 ghost use Rattle.program_runs.specs.declared.fault.Fault.{Fault};
 ghost use Rattle.program_streams.specs.Stream.{HasRoom};
-ghost use Rattle.read_document.specs.Kinds.{are_lines};
+ghost use Rattle.fsr_order_input.specs.Kinds.{are_lines};
 
 use crate::input::take_log;
 use crate::log::LogInput;

@@ -7,13 +7,13 @@ ghost use Rattle.program_runs.specs.Run.{CountsTaking, TellsUnlessTaken};
 ghost use Rattle.program_streams.specs.Spaces.{ends_in_space};
 ghost use Rattle.program_streams.specs.Stream.{HasRoom};
 ghost use Rattle.program_streams.specs.Transfer.{CountsFailure};
-ghost use Rattle.read_document.specs.Kinds.{are_lines};
+ghost use Rattle.fsr_order_input.specs.Kinds.{are_lines};
 
+use crate::kinds::are_lines;
 use crate::log::LogInput;
 use packed_text::PackedText;
 use program_runs::{Program, take_document, tell_untaken};
 use program_streams::{InputFault, Sink, Source, ends_in_space, read_piece};
-use read_document::are_lines;
 use std::alloc::Global;
 
 /// The greatest number of bytes of a document that isn't in lines.

@@ -2,8 +2,8 @@
 ghost use Rattle.std.specs.Prelude.{◌≡◌, IfOk};
 ghost use Rattle.fsr_order_input.specs.Inputs.{input_text, IsByKind};
 
+use crate::kinds::are_lines;
 use packed_text::PackedText;
-use read_document::are_lines;
 use std::alloc::{AllocError, Global};
 
 /// The input of the command `order`.

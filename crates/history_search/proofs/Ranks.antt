@@ -4,7 +4,7 @@ use Rattle.std.proofs.Common.{◌≡◌, ◌≢◌, ℕ, zero, suc, ◌+◌, ◌
 use Rattle.std.proofs.Common.{◌∙◌, ap, subst, arith, inl, inr, slice_get, Option, None, Some}
 use Rattle.std.specs.Prelude.{IsSome, IsSomeAnd, is_some, ◌||◌}
 use Rattle.std.specs.Option.{option_map}
-use Rattle.std.proofs.lemmas.Bool.{cases_lt, cases_order, cases_eq, cases_Bool}
+use Rattle.std.proofs.lemmas.Bool.{false≢true, cases_lt, cases_order, cases_eq, cases_Bool}
 use Rattle.std.proofs.lemmas.Option.{slice_get_within, same_Some, slice_get-map, none-some, option_and_then_some}
 use Rattle.history_core.specs.declared.history.Op.{Op}
 use Rattle.history_core.specs.declared.history.Kind.{Kind}
@@ -167,6 +167,53 @@ module _ {R : Type 0} (Same : R → R → Type 0) (opening : R) (ops : List (Op 
       pub at : slice_get (places_of ranks) j ≡ Some w
       pub none : NoWriteBetween ops (places_of ranks) (j + 1) i
 
+    -- of two ranks of one group at most one is of the write
+    one_write : (j n w p : ℕ) (y z : Rank) → slice_get ranks j ≡ Some y → y.place ≡ w → y.group ≡ suc w → slice_get ranks n ≡ Some z →
+        z.place ≡ p → IsRank ops groups spans cut z → y.group ≡ z.group → j < n → is_write_at (slice_get ops p) ≡ false
+    one_write j n w p y z ey wy gy ez pz kz sg jn =
+        let at : slice_get ops p ≡ Some kz.op = ap (slice_get ops) (sym pz) ∙ kz.member.0 in
+        ap is_write_at at ∙ elim (cases_Bool (is_write kz.op.kind)) [
+          | inr f ↦ f
+          | inl t ↦
+              let o : z.group ≡ suc z.place = own Same opening ops groups known are z.place z.group kz.op kz.member t in
+              let q : y.place ≡ z.place = omega (arith, wy, gy, sg, o) in
+              let ij : j ≡ n = places_once j n z.place (place_at ranks j y ey ∙ ap Some q) (place_at ranks n z ez) in
+              absurd (omega (arith, ij, jn))
+        ]
+
+    -- the same where the rank of the write is known
+    write_at : (i j w : ℕ) (r y : Rank) (x : Op R) → slice_get ranks i ≡ Some r → r.answers ≡ true → AreOfGroup y r →
+        Member ops groups w x (suc w) → is_write x.kind ≡ true → slice_get ranks j ≡ Some y → y.place ≡ w → IsRank ops groups spans cut y →
+        y.group ≡ suc w → WriteBefore i w
+    write_at i j w r y x e answers same mx wx ey wy ky gy =
+        let oy : ky.op ≡ x = rank_op y w x ky wy mx.0 in
+        let writes : y.answers ≡ false = not_true y.answers (sym ky.answers ∙ ap (λ (z : Op R). is_write z.kind) oy ∙ wx) in
+        let before : j < i = elim (cases_order j i) [
+          | inr (inl l) ↦ l
+          | inl s ↦
+              let q : y ≡ r = same_Some y r (sym ey ∙ ap (slice_get ranks) s ∙ e) in
+              absurd (false≢true (sym writes ∙ ap (λ (z : Rank). z.answers) q ∙ answers))
+          | inr (inr l) ↦
+              let nl = in_order i j r y e ey l in
+              let t : y.answers ≡ true = nl.answers (sym same.late) (sym same.first) (sym same.last) (sym same.group) answers in
+              absurd (false≢true (sym writes ∙ t))
+        ] in
+        record {
+          j = j;
+          before = before;
+          at = place_at ranks j y ey ∙ ap Some wy;
+          none = λ n p ln lt en.
+              let z = rank_at ranks n p en in
+              let kz = is_rank n z.0 z.1 in
+              let jn : j < n = omega (arith, ln) in
+              let s = between y z.0 r same (in_order j n y z.0 ey z.1 jn) (in_order n i z.0 r z.1 e lt) in
+              one_write j n w p y z.0 ey wy gy z.1 z.2 kz s.group jn;
+        }
+      where
+        not_true : (b : Bool) → not b ≡ true → b ≡ false
+        not_true true h = cc
+        not_true false h = refl
+
     pub write_before : (i w : ℕ) (r : Rank) → slice_get ranks i ≡ Some r → r.group ≡ suc w → r.answers ≡ true → WriteBefore i w
     write_before i w r e g answers =
         let k = is_rank i r e in
@@ -179,45 +226,8 @@ module _ {R : Type 0} (Same : R → R → Type 0) (opening : R) (ops : List (Op 
         let y = ranked.all w (suc w) x.0 (slice_get_within ops w x.0 x.1.0) x.1 stood in
         let ky = is_rank y.0 y.1 y.2 in
         let gy : y.1.group ≡ suc w = rank_group y.1 w (suc w) x.0 ky y.3 x.1 in
-        let same = of_group y.1 r ky k (gy ∙ sym g) in
-        let oy : ky.op ≡ x.0 = rank_op y.1 w x.0 ky y.3 x.1.0 in
-        let writes : y.1.answers ≡ false = not_true y.1.answers (sym ky.answers ∙ ap (λ (z : Op R). is_write z.kind) oy ∙ x.2) in
-        let before : y.0 < i = elim (cases_order y.0 i) [
-          | inr (inl l) ↦ l
-          | inl s ↦
-              let q : y.1 ≡ r = same_Some y.1 r (sym y.2 ∙ ap (slice_get ranks) s ∙ e) in
-              let f : y.1.answers ≡ r.answers = ap (λ (z : Rank). z.answers) q in
-              cc
-          | inr (inr l) ↦
-              let nl = in_order i y.0 r y.1 e y.2 l in
-              let t : y.1.answers ≡ true = nl.answers (sym same.late) (sym same.first) (sym same.last) (sym same.group) answers in
-              cc
-        ] in
-        record {
-          j = y.0;
-          before = before;
-          at = place_at ranks y.0 y.1 y.2 ∙ ap Some y.3;
-          none = λ n p ln lt en.
-              let z = rank_at ranks n p en in
-              let kz = is_rank n z.0 z.1 in
-              let s = between y.1 z.0 r same (in_order y.0 n y.1 z.0 y.2 z.1 (omega arith)) (in_order n i z.0 r z.1 e lt) in
-              let at : slice_get ops p ≡ Some kz.op = ap (slice_get ops) (sym z.2) ∙ kz.member.0 in
-              ap is_write_at at ∙ elim (cases_Bool (is_write kz.op.kind)) [
-                | inr f ↦ f
-                | inl t ↦
-                    let o : z.0.group ≡ suc z.0.place = own Same opening ops groups known are z.0.place z.0.group kz.op kz.member t in
-                    let ez : z.0.place ≡ p = z.2 in
-                    let sg : y.1.group ≡ z.0.group = s.group in
-                    let q : w ≡ p = omega arith in
-                    let ij : y.0 ≡ n = places_once y.0 n p (place_at ranks y.0 y.1 y.2 ∙ ap Some (y.3 ∙ q)) en in
-                    absurd (omega arith)
-              ];
-        }
+        write_at i y.0 w r y.1 x.0 e answers (of_group y.1 r ky k (gy ∙ sym g)) x.1 x.2 y.2 y.3 ky gy
       where
-        not_true : (b : Bool) → not b ≡ true → b ≡ false
-        not_true true h = cc
-        not_true false h = refl
-
         finished : (o : Op R) → o ≡ (is_rank i r e).op → Member ops groups r.place (is_rank i r e).op r.group → r.answers ≡ true →
             (end : ℕ) × ((is_rank i r e).op.ends ≡ Some end)
         finished o s m a = elim (finished_or Same opening ops groups known are r.place r.group (is_rank i r e).op m) [

@@ -1,9 +1,5 @@
 pub mod BodyLemmas
 pub mod FaultLemmas
-pub mod KeyBodyLemmas
-pub mod KeyEntryLemmas
-pub mod KeyLemmas
-pub mod KeyReadLemmas
 pub mod PackedLemmas
 pub mod ReadLemmas
 pub mod TextLemmas

@@ -1,5 +1,3 @@
 pub mod Faults
-pub mod KeyFaults
-pub mod Keys
 pub mod Logs
 pub mod inner

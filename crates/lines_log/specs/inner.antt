@@ -1,3 +1,2 @@
-pub mod KeyReadings
 pub mod Numbers
 pub mod Readings

@@ -56,7 +56,8 @@ pub fn same_key(key: &Option<String>, other: &Option<String>) -> bool
     }
 }
 
-pub(crate) fn judged_end(ops: usize, count: usize, last: bool) -> Result<Option<LineOp>, DocError>
+/// What the end of a log is behind so many operations: none, or its refusal.
+pub fn judged_end(ops: usize, count: usize, last: bool) -> Result<Option<LineOp>, DocError>
     ensures said { Gives (option_map op_seen) result
         (judged (record { limited = true; key = None }) count last (done ops)) }
     ensures allowed { IfOk result (λ found. IfSome found IsAllowed) }

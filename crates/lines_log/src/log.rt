@@ -22,7 +22,7 @@ use record_numbers::RecordNumbers;
 use std::alloc::{AllocError, Global};
 
 /// The line of the header.
-pub(crate) const HEADER: usize = 1;
+pub const HEADER: usize = 1;
 
 /// What is kept of the log that the text stands for, or the first line at fault.
 pub fn read_lines(alloc: Global, text: &PackedText) -> Result<LinesLog, Fault>
@@ -73,7 +73,7 @@ pub fn text_of(bytes: &[u8]) -> &[u8]
 }
 
 /// The key of the operation on the first of these lines of a text, if it has one.
-pub(crate) fn first_key(
+pub fn first_key(
     alloc: Global,
     text: &PackedText,
     body: &[u8],
@@ -142,7 +142,7 @@ pub fn is_end(rest: &[u8]) -> bool
 }
 
 /// What is kept. The numbers' memory is given back first.
-pub(crate) fn finish(
+pub fn finish(
     alloc: Global,
     limit: u64,
     ended: bool,

@@ -20,7 +20,7 @@ use text_lines::line_at;
 
 /// What was read of a log.
 #[derive(Drop)]
-pub(crate) struct Reader {
+pub struct Reader {
     /// Whether the header has a limit.
     pub limited: bool,
     /// The key of each operation, if it has one.

@@ -6,7 +6,7 @@ use Rattle.history_core.specs.declared.thinned.LogAnswer.TheVariants.{Lawful, Un
 use Rattle.kept_lines.specs.declared.lines_log.LinesLog.{LinesLog}
 use Rattle.program_streams.specs.Exits.{status_of as status_at}
 use Rattle.fsr_once_answers.specs.LinesAnswers.{lawful_exit, status_of}
-use Rattle.print_once.specs.Text.{shown_text, shows_little}
+use Rattle.print_reasons.specs.LogText.{shown_text, shows_little}
 
 some_words : (x : ℕ) (xs : List ℕ) → x ∷ xs ≢ []
 some_words x xs = λ none. absurd (cc)

@@ -21,9 +21,10 @@ use Rattle.read_document.specs.declared.key.Key.TheVariants as key
 use Rattle.read_document.specs.declared.refusal.DocError.{DocError}
 use Rattle.read_document.specs.declared.refusal.DocError.TheVariants.{Law, Long, Missing, NoMemory, NotJson, Range}
 use Rattle.read_document.specs.declared.refusal.DocError.TheVariants.{Shape, Kind as OfKind}
-use Rattle.read_line.specs.Lines.{allowed, done, done_in, ends_later, entry_in, entry_of, has_record, Head, head_in}
-use Rattle.read_line.specs.Lines.{head_of, key_in, kind_in, KeyedOp, LineEntry, operation, operation_in, record_in}
-use Rattle.read_line.specs.Records.{record_text}
+use Rattle.read_document.specs.LineFields.{done_in, key_in, record_in}
+use Rattle.read_line.specs.Lines.{allowed, done, ends_later, entry_in, entry_of, has_record, Head, head_in}
+use Rattle.read_line.specs.Lines.{head_of, kind_in, KeyedOp, LineEntry, operation, operation_in}
+use Rattle.read_document.specs.Records.{record_text}
 use Rattle.read_document.specs.Keys.{name_of}
 use Rattle.history_fields.specs.Fields.{limit_in_range}
 use Rattle.read_document.specs.Values.{as_whole, optional}
@@ -32,7 +33,7 @@ use Rattle.std.specs.Option.{option_map_or}
 use Rattle.lines_log.specs.Faults.{is_last, IsLineFault, IsLinesFault, refused_at, told_of}
 use Rattle.lines_log.specs.Logs.{is_refused, judged, judged_line, LineRule, rule_in, same_key}
 use Rattle.order_laws.specs.OneKey.{AreOfOneKey}
-use Rattle.fsr_once_answers.specs.ByKeys.{IsAnswerByKeys, IsAnswerIfSmall, is_other_key}
+use Rattle.fsr_keys_answers.specs.ByKeys.{IsAnswerByKeys, IsAnswerIfSmall, is_other_key}
 
 -- ---- no line is refused for its key by what it says alone
 

@@ -14,11 +14,11 @@ use Rattle.history_core.specs.declared.reason.Reason.TheVariants.{Unwritten, Ear
 use Rattle.history_core.specs.declared.thinned.Thinned.{Thinned}
 use Rattle.history_thinning.specs.Answers.{IsKeptAt, NamesKept}
 use Rattle.history_thinning.specs.Thinnings.{Equal, IsThinnedLog, one_term}
-use Rattle.lines_log.specs.Keys.{is_of, lines_of_key, places_from, places_of_key}
+use Rattle.keys_log.specs.Keys.{is_of, lines_of_key, places_from, places_of_key}
 use Rattle.print_reasons.specs.KeptAt.{kept_at as kept_place}
 use Rattle.print_reasons.specs.Named.{in_kept, places_of}
 use Rattle.small_log.specs.Small.{lines_of, named_of, small_lines, small_ops, told_ops}
-use Rattle.print_once.specs.KeysText.{whole_place, whole_places, whole_reason, whole_thinned}
+use Rattle.print_keys.specs.KeysText.{whole_place, whole_places, whole_reason, whole_thinned}
 use Rattle.order_laws.proofs.PrintedLemmas.{unlawful_told}
 use Rattle.order_laws.proofs.SmallLemmas.{are_lines}
 

@@ -1,7 +1,7 @@
 -- What the smaller programs of `order` are asked for (this project's own).
 use Rattle.std.specs.Prelude.{◌≡◌, ◌⊎◌, ℕ, List, true, false, Err}
 use Rattle.read_document.specs.Document.{value_of}
-use Rattle.read_document.specs.Kinds.{are_lines}
+use Rattle.fsr_order_input.specs.Kinds.{are_lines}
 use Rattle.read_document.specs.declared.refusal.DocError.TheVariants.{Long, NotJson}
 use Rattle.read_line.specs.Repeats.{has_repeats}
 

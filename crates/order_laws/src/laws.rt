@@ -20,16 +20,16 @@ ghost use Rattle.kept_lines.specs.declared.lines_log.LinesLog.{LinesLog};
 ghost use Rattle.program_runs.specs.declared.fault.Answer.{Answer};
 ghost use Rattle.program_runs.specs.declared.fault.Fault.{Fault};
 ghost use Rattle.program_runs.specs.declared.show.Show.{Show};
-ghost use Rattle.read_document.specs.Kinds.{are_lines};
+ghost use Rattle.fsr_order_input.specs.Kinds.{are_lines};
 ghost use Rattle.read_line.specs.Lines.{Head};
 ghost use Rattle.small_log.specs.Small.{small_lines, small_ops, told_ops};
 ghost use Rattle.fsr_log_answers.specs.Logs.{IsLogAnswer};
-ghost use Rattle.fsr_once_answers.specs.ByKeys.{IsAnswerByKeys, IsAnswerIfSmall};
-ghost use Rattle.fsr_once_answers.specs.KeysAnswers.{IsKeyJudged};
-ghost use Rattle.print_once.specs.KeysText.{whole_reason, whole_thinned};
+ghost use Rattle.fsr_keys_answers.specs.ByKeys.{IsAnswerByKeys, IsAnswerIfSmall, is_other_key};
+ghost use Rattle.fsr_keys_answers.specs.KeysAnswers.{IsKeyJudged};
+ghost use Rattle.print_keys.specs.KeysText.{whole_reason, whole_thinned};
 ghost use Rattle.fsr_once_answers.specs.LinesAnswers.{status_of};
 ghost use Rattle.fsr_once_answers.specs.Once.{IsAnswerOnce};
-ghost use Rattle.print_once.specs.Text.{shown_text};
+ghost use Rattle.print_reasons.specs.LogText.{shown_text};
 ghost use Rattle.fsr_order_answers.specs.Order.{IsOrderAnswer};
 ghost use Rattle.order_laws.specs.OneKey.{AreOfOneKey};
 ghost use Rattle.order_laws.specs.Parts.{IsOnceOrNone};
@@ -84,11 +84,12 @@ pub fn small_of_key_is_unlawful()
         (small_ops (whole_thinned one.places.items one.log.thinned) (whole_reason one.places.items reason))) again }
 {}
 
-/// The answer to a log in lines whose records don't repeat, by itself, is an answer of the command; so is its refusal
-/// of what is no document.
+/// The answer to a log in lines whose records don't repeat, by itself, is an answer of the command, unless a small log
+/// is asked for or an operation is refused for its key; so is the refusal of what is no document.
 pub fn once_as_any()
     ensures { (show : Show) (bytes : List ℕ) (reply : Result Answer Fault) → IsOnceOrNone bytes →
-        IsAnswerOnce show bytes reply → IsOrderAnswer show bytes reply }
+        show.small ≡ false → is_other_key reply ≡ false → IsAnswerOnce show bytes reply →
+        IsOrderAnswer show bytes reply }
 {}
 
 /// The answer to a document of kind `log`, by itself, is an answer of the command.

@@ -1,5 +1,6 @@
 pub mod Counts
 pub mod KeptAt
+pub mod LogText
 pub mod Named
 pub mod Sentences
 pub mod Text

@@ -1,2 +1,3 @@
 pub mod ItemLemmas
 pub mod ReadLemmas
+pub mod RecordLemmas

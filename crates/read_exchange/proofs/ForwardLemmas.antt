@@ -13,7 +13,8 @@ use Rattle.read_document.specs.declared.refusal.DocError.TheVariants.{Law, Shape
 use Rattle.read_document.specs.declared.key.Key.TheVariants as key
 use Rattle.read_document.specs.Refusals.{◌>>=◌, field, must, required, some_or}
 use Rattle.read_document.specs.Values.{as_whole, optional}
-use Rattle.read_line.specs.Lines.{done_in, ends_later, key_in, record_in}
+use Rattle.read_document.specs.LineFields.{done_in, key_in, record_in}
+use Rattle.read_line.specs.Lines.{ends_later}
 use Rattle.read_exchange.specs.Exchanges.{asked_in, done, effect_of, entry_in, entry_of, ExchangeEntry}
 use Rattle.read_exchange.specs.Exchanges.{KeyedExchange, operation, form_in, operation_in}
 

@@ -13,8 +13,9 @@ use Rattle.read_document.specs.declared.key.Key.TheVariants as key
 use Rattle.read_document.specs.Document.{is_kind, value_of}
 use Rattle.read_document.specs.Refusals.{◌>>=◌, field, must, required, some_or}
 use Rattle.read_document.specs.Values.{as_whole, optional}
-use Rattle.read_line.specs.Lines.{done_in, ends_later, key_in, record_in}
-use Rattle.read_line.specs.Records.{record_text}
+use Rattle.read_document.specs.LineFields.{done_in, key_in, record_in}
+use Rattle.read_line.specs.Lines.{ends_later}
+use Rattle.read_document.specs.Records.{record_text}
 use Rattle.read_exchange.specs.declared.form.Form.{Form}
 use Rattle.read_exchange.specs.declared.form.Form.TheVariants.{Write, Maybe, Read, Refused, Cas}
 use Rattle.read_exchange.specs.declared.line.ExchangeLine.{ExchangeLine}

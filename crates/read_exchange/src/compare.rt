@@ -5,15 +5,14 @@ ghost use Rattle.serde_json.specs.View.{view};
 ghost use Rattle.read_document.specs.declared.key.Key.TheVariants.{From, Found, Record, Swapped};
 ghost use Rattle.read_document.specs.Refusals.{field, Gives, some_or};
 ghost use Rattle.read_document.specs.Values.{optional};
-ghost use Rattle.read_line.specs.Records.{record_text};
+ghost use Rattle.read_document.specs.Records.{record_text};
 ghost use Rattle.read_exchange.specs.Exchanges.{asked_in, compared, comparison_in, effect_of, exchanged, may_find};
 ghost use Rattle.read_exchange.specs.Exchanges.{is_refused, reads, what_seen, writes};
 ghost use Rattle.read_exchange.specs.inner.Seen.{asked_seen, comparison_seen, effect_seen};
 
 use crate::form::Form;
 use crate::line::TextExchange;
-use read_document::{DocError, Key, must, required, shaped};
-use read_line::record_text;
+use read_document::{DocError, Key, must, record_text, required, shaped};
 use serde_json::Value;
 use std::alloc::Global;
 

@@ -7,9 +7,10 @@ use crate::compare::{Effect, asked_in, effect_of};
 use crate::form::form_in;
 use crate::line::{ExchangeLine, ExchangeOp};
 use read_document::{
-    DocError, Key, is_kind, must, number_field, optional_number, read_value, required, shaped,
+    DocError, Key, done_in, is_kind, key_in, must, number_field, optional_number, read_value,
+    record_in, required, shaped,
 };
-use read_line::{done_in, ends_later, key_in, record_in};
+use read_line::ends_later;
 use serde_json::Value;
 use std::alloc::Global;
 

@@ -1,13 +1,14 @@
 //! An operation of a history.
 ghost use Rattle.std.specs.Prelude.{◌≡◌, codes, option_and_then, option_map};
-ghost use Rattle.serde_json.specs.Find.{get};
+ghost use Rattle.serde_json.specs.Find.{as_str, get};
 ghost use Rattle.serde_json.specs.View.{view};
+ghost use Rattle.history_fields.specs.Fields.{kind_named};
 ghost use Rattle.read_document.specs.Values.{as_whole, optional};
 ghost use Rattle.read_history.specs.Shapes.{as_band, as_op};
 
 use crate::shape::{Shape, band_in};
-use history_core::{Band, Op};
-use history_fields::kind_of;
+use history_core::{Band, Kind, Op};
+use history_fields::kind_named;
 use read_document::{optional_number, place_in};
 use serde_json::Value;
 use std::alloc::{AllocError, Global};
@@ -36,6 +37,12 @@ fn actor_of(value: &Value) -> Option<usize>
     ensures { result ≡ option_and_then as_whole (get (codes "who") (view value.now)) }
 {
     place_in(value.get("who")?)
+}
+
+fn kind_of(value: &Value) -> Option<Kind>
+    ensures { result ≡ option_and_then kind_named (option_and_then as_str (get (codes "kind") (view value.now))) }
+{
+    kind_named(value.get("kind")?.as_str()?)
 }
 
 fn beginning_of(value: &Value) -> Option<u64>

@@ -14,11 +14,12 @@ use Rattle.read_document.specs.declared.refusal.DocError.{DocError}
 use Rattle.read_document.specs.declared.refusal.DocError.TheVariants.{Law, Range, Shape, Kind as OfKind}
 use Rattle.read_document.specs.declared.key.Key.TheVariants as key
 use Rattle.read_document.specs.Document.{is_kind, value_of}
+use Rattle.read_document.specs.LineFields.{done_in, key_in, record_in}
+use Rattle.read_document.specs.Records.{record_text}
 use Rattle.history_fields.specs.Fields.{limit_in_range}
 use Rattle.read_document.specs.Refusals.{◌>>=◌, field, must, required, some_or}
 use Rattle.history_fields.specs.Fields.{kind_named}
 use Rattle.read_document.specs.Values.{as_whole, optional}
-use Rattle.read_line.specs.Records.{record_text}
 use Rattle.read_line.specs.declared.line.LogHeader.{LogHeader}
 use Rattle.read_line.specs.declared.line.LogLine.{LogLine}
 use Rattle.read_line.specs.declared.line.LogLine.TheVariants.{Operation, Done}
@@ -82,13 +83,6 @@ allowed kind begin ends there = do
 abbrev pub kind_in : Data → Option Kind
 kind_in d = option_and_then kind_named (option_and_then as_str (get (codes "kind") d))
 
-abbrev pub record_in : Data → Result (Option (List ℕ)) DocError
-record_in d = some_or (Shape key.Record) (optional record_text (get (codes "record") d))
-
--- a key is what may be a record
-abbrev pub key_in : Data → Result (Option (List ℕ)) DocError
-key_in d = some_or (Shape key.Key) (optional record_text (get (codes "key") d))
-
 unfoldable pub operation_in : Data → Result KeyedOp DocError
 operation_in d = do
   all_there ← required (key.Who ∷ key.Kind ∷ key.Begin ∷ key.End ∷ key.Record ∷ []) d
@@ -100,11 +94,6 @@ operation_in d = do
   which ← key_in d
   as_allowed ← allowed kind begin ends (is_some item)
   Ok (record { key = which; op = record { who = who; kind = kind; starts = begin; ends = ends; item = item } })
-
-unfoldable pub done_in : Data → Result ℕ DocError
-done_in d = do
-  there ← required (key.Ops ∷ []) d
-  field key.Ops as_whole d
 
 unfoldable pub entry_in : Data → Result LineEntry DocError
 entry_in d = if is_kind (codes "done") d then (do

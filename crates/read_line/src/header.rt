@@ -4,14 +4,15 @@ ghost use Rattle.std.specs.Option.{option_map_or};
 ghost use Rattle.serde_json.specs.View.{view};
 ghost use Rattle.read_document.specs.declared.key.Key.TheVariants.{Opening};
 ghost use Rattle.history_fields.specs.Fields.{limit_in_range};
+ghost use Rattle.read_document.specs.Records.{record_text};
 ghost use Rattle.read_document.specs.Refusals.{field, Gives};
 ghost use Rattle.read_line.specs.Lines.{head_in, head_of, head_seen};
-ghost use Rattle.read_line.specs.Records.{record_text};
 
 use crate::line::LogHeader;
-use crate::record::record_text;
 use history_fields::limit_in_range;
-use read_document::{DocError, Key, is_kind, must, optional_number, read_value, required, shaped};
+use read_document::{
+    DocError, Key, is_kind, must, optional_number, read_value, record_text, required, shaped,
+};
 use serde_json::Value;
 use std::alloc::Global;
 

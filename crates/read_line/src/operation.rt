@@ -1,17 +1,16 @@
 //! The lines behind the header.
-ghost use Rattle.std.specs.Prelude.{◌≡◌, true, option_map, is_some, string_bytes, IfOk, OnOk};
+ghost use Rattle.std.specs.Prelude.{◌≡◌, true, is_some, IfOk, OnOk};
 ghost use Rattle.serde_json.specs.View.{view};
 ghost use Rattle.read_document.specs.Refusals.{Gives};
-ghost use Rattle.read_line.specs.Lines.{allowed, done_in, ends_later, entry_in, entry_of, has_record};
-ghost use Rattle.read_line.specs.Lines.{line_seen, IsAllowed, MayFollow};
-ghost use Rattle.read_line.specs.Lines.{key_in, keyed_seen, operation_in, record_in};
+ghost use Rattle.read_line.specs.Lines.{allowed, ends_later, entry_in, entry_of, has_record, IsAllowed};
+ghost use Rattle.read_line.specs.Lines.{keyed_seen, kind_in, line_seen, MayFollow, operation_in};
 
 use crate::line::{LineOp, LogLine};
-use crate::record::record_text;
 use history_core::Kind;
-use history_fields::kind_of;
+use history_fields::kind_named;
 use read_document::{
-    DocError, Key, is_kind, must, number_field, optional_number, read_value, required, shaped,
+    DocError, Key, done_in, is_kind, key_in, must, number_field, optional_number, read_value,
+    record_in, required, shaped,
 };
 use serde_json::Value;
 use std::alloc::Global;
@@ -40,16 +39,6 @@ fn line_in(alloc: Global, value: &Value) -> Result<LogLine, DocError>
     }
 }
 
-/// The number of operations that the end of a log says.
-#[tactic(auto, unfolding(crate::specs::Lines::done_in))]
-pub fn done_in(value: &Value) -> Result<usize, DocError>
-    ensures { Gives (λ n. n) result (done_in (view value.now)) }
-{
-    required(value, &[Key::Ops])?;
-    let ops = number_field(value, Key::Ops)?;
-    Ok(ops as usize)
-}
-
 #[tactic(auto, unfolding(crate::specs::Lines::operation_in))]
 fn operation_in(alloc: Global, value: &Value) -> Result<LineOp, DocError>
     ensures said { Gives keyed_seen result (operation_in (view value.now)) }
@@ -60,7 +49,7 @@ fn operation_in(alloc: Global, value: &Value) -> Result<LineOp, DocError>
         &[Key::Who, Key::Kind, Key::Begin, Key::End, Key::Record],
     )?;
     let who = number_field(value, Key::Who)? as usize;
-    let kind = shaped(Key::Kind, kind_of(value))?;
+    let kind = shaped(Key::Kind, kind_in(value))?;
     let begin = number_field(value, Key::Begin)?;
     let end = shaped(Key::End, optional_number(value.get("end")))?;
     let record = record_in(alloc, value)?;
@@ -76,30 +65,10 @@ fn operation_in(alloc: Global, value: &Value) -> Result<LineOp, DocError>
     })
 }
 
-/// The text of the record, which may be null.
-pub fn record_in(alloc: Global, value: &Value) -> Result<Option<String>, DocError>
-    ensures { Gives (option_map string_bytes) result (record_in (view value.now)) }
+fn kind_in(value: &Value) -> Option<Kind>
+    ensures { result ≡ kind_in (view value.now) }
 {
-    match value.get("record") {
-        None | Some(Value::Null) => Ok(None),
-        Some(found) => match record_text(alloc, found)? {
-            Some(text) => Ok(Some(text)),
-            None => Err(DocError::Shape(Key::Record)),
-        },
-    }
-}
-
-/// The text of the key, which may be missing or null.
-pub fn key_in(alloc: Global, value: &Value) -> Result<Option<String>, DocError>
-    ensures { Gives (option_map string_bytes) result (key_in (view value.now)) }
-{
-    match value.get("key") {
-        None | Some(Value::Null) => Ok(None),
-        Some(found) => match record_text(alloc, found)? {
-            Some(text) => Ok(Some(text)),
-            None => Err(DocError::Shape(Key::Key)),
-        },
-    }
+    kind_named(value.get("kind")?.as_str()?)
 }
 
 #[tactic(auto, unfolding(crate::specs::Lines::allowed))]

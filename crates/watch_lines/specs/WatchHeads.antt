@@ -12,7 +12,7 @@ use Rattle.read_document.specs.declared.key.Key.TheVariants.{Who}
 use Rattle.read_document.specs.Document.{value_of}
 use Rattle.read_document.specs.Refusals.{◌>>=◌, some_or}
 use Rattle.read_document.specs.Values.{as_items, as_whole}
-use Rattle.read_line.specs.Records.{is_whole}
+use Rattle.read_document.specs.Records.{is_whole}
 use Rattle.read_exchange.specs.Headers.{exchange_head_of}
 use Rattle.watch_lines.specs.declared.header.WatchHeader.{WatchHeader}
 use Rattle.watch_lines.specs.declared.tasks.Task.{Task}

@@ -7,7 +7,7 @@ ghost use Rattle.read_document.specs.declared.key.Key.TheVariants.{Who};
 ghost use Rattle.read_document.specs.declared.refusal.DocError.TheVariants.{Shape};
 ghost use Rattle.read_document.specs.Refusals.{Gives, some_or};
 ghost use Rattle.read_document.specs.Values.{as_items};
-ghost use Rattle.read_line.specs.Records.{is_whole};
+ghost use Rattle.read_document.specs.Records.{is_whole};
 ghost use Rattle.watch_lines.specs.WatchHeads.{header_seen, task_named, tasks_in, tasks_named, watch_head_of};
 
 use crate::tasks::Task;

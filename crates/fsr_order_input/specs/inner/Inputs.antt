@@ -6,7 +6,7 @@ use Rattle.packed_text.specs.declared.text.PackedText.{PackedText}
 use Rattle.program_streams.specs.Spaces.{ends_in_space, most_kept_space, space_behind}
 use Rattle.program_streams.specs.Transfer.{most_taken}
 use Rattle.program_streams.specs.declared.transfer.InputFault.{InputFault}
-use Rattle.read_document.specs.Kinds.{are_lines}
+use Rattle.fsr_order_input.specs.Kinds.{are_lines}
 use Rattle.fsr_order_input.specs.declared.log.LogInput.{LogInput}
 use Rattle.fsr_order_input.specs.declared.log.LogInput.TheVariants.{Lines, Document}
 

@@ -1,4 +1,4 @@
--- How far a log is read. Only private functions cite this, which is this project's own.
+-- How far a log is read. Only readers and private functions cite this, which is this project's own.
 use Rattle.std.specs.Prelude.{◌≡◌, ℕ, List, [], ◌∷◌, ◌++◌, ◌⊎◌, length, Bool, true, false}
 use Rattle.std.specs.Prelude.{slice_get, None, Some, Ok, option_map}
 use Rattle.std.specs.Prelude.{string_bytes}

@@ -1,7 +1,7 @@
 -- The log was answered and the answer given, or it wasn't taken whole.
 use Rattle.std.proofs.Common.{refl}
 use Rattle.program_runs.proofs.RunLemmas.{ends_answered, ends_untaken}
-use Rattle.read_document.specs.Kinds.{are_lines}
+use Rattle.fsr_order_input.specs.Kinds.{are_lines}
 use Rattle.fsr_order_input.specs.Inputs.{input_text}
 use Rattle.fsr_order_input.proofs.command.run_log.Goals as goal
 

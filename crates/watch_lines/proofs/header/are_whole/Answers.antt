@@ -2,7 +2,7 @@
 use Rattle.std.proofs.Common.{◌∙◌, sym}
 use Rattle.std.proofs.lemmas.List.Folds.{list_all-map}
 use Rattle.serde_json.specs.View.{view}
-use Rattle.read_line.specs.Records.{is_whole}
+use Rattle.read_document.specs.Records.{is_whole}
 use Rattle.watch_lines.proofs.header.are_whole.Goals as goal
 
 pub returns : goal.returns

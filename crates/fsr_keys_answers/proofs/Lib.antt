@@ -1,0 +1,3 @@
+pub mod ByKeysLemmas
+mod KeysLemmas
+mod SmallStatusLemmas

@@ -1,0 +1,4 @@
+pub mod ByKeys
+pub mod KeysAnswers
+pub mod SmallAnswers
+pub mod SmallKeys

@@ -1,0 +1,13 @@
+//! What `fsr` answers to a log in lines whose records are written once, by its keys: to one of several keys key by key;
+//! or the small log that shows the reason.
+#![tactic(auto)]
+
+mod by_keys;
+mod keys_answer;
+mod keys_small;
+mod keys_verdict;
+mod small_answer;
+
+pub use by_keys::order_by_keys;
+pub use keys_answer::order_keys;
+pub use small_answer::order_small;

@@ -1,8 +1,0 @@
--- Each key so far has a lawful order.
-use Rattle.std.proofs.Common.{ℕ, List}
-use Rattle.lines_log.specs.Keys.{IsKeysLog}
-use Rattle.fsr_once_answers.specs.KeysAnswers.{HaveOrders}
-use Rattle.fsr_once_answers.proofs.keys_verdict.judge_keys.Given as goal
-
-abbrev pub invariant-loop-one : goal.invariant-loop-one
-invariant-loop-one l = (bytes : List ℕ) (is : IsKeysLog bytes l.log) → HaveOrders is l.one-index l.orders.items

@@ -1,0 +1,4 @@
+mod KeyBodyLemmas
+mod KeyEntryLemmas
+pub mod KeyLemmas
+mod KeyReadLemmas

@@ -1,0 +1,70 @@
+-- The header and the body were read.
+use Rattle.std.proofs.Common.{◌∙◌, ◌≡◌, [], List, Option, ℕ, true, false, ap, inl, inr, subst, sym}
+use Rattle.packed_text.specs.Words.{text_in, told}
+use Rattle.read_line.specs.Lines.{head_seen}
+use Rattle.lines_log.specs.Faults.{is_end}
+use Rattle.lines_log.specs.Logs.{text_of}
+use Rattle.keys_log.specs.inner.KeyReadings.{AreKeysRead}
+use Rattle.keys_log.proofs.KeyBodyLemmas.{header_keys_fault, keys_assembled, later_keys_fault}
+use Rattle.lines_log.proofs.PackedLemmas.{next_of, nothing_told, told_text}
+use Rattle.keys_log.proofs.keys.read_keys.Goals as goal
+
+pub read_body-requires-clause-known : goal.read_body-requires-clause-known
+read_body-requires-clause-known c = (
+  head_seen c.in-Ok-read_header.header,
+  subst (λ (key : Option (List ℕ)). AreKeysRead (head_seen c.in-Ok-read_header.header) key [] c.in-Ok-new.reader)
+      c.in-Ok-first_key.ensures c.in-Ok-new.ensures.read,
+)
+
+pub returns-then-is_end-clause-fault : goal.returns-then-is_end-clause-fault
+returns-then-is_end-clause-fault c =
+    let over : is_end c.text_of-codes.result.now ≡ true = sym c.is_end.ensures ∙ c.if-is_end.true in
+    let is_text : told c.args.text.now.packed c.text_of-codes.result.now ≡ text_of (text_in c.args.text.now) =
+    ap (told c.args.text.now.packed) (c.text_of-codes.ensures ∙ ap text_of c.as_slice.ensures.value)
+    ∙ told_text c.args.text.now.packed c.args.text.now.codes.items in
+    inr (inl (sym is_text ∙ nothing_told c.args.text.now.packed c.text_of-codes.result.now over, c.refused_at.ensures))
+
+pub returns-in-Err-read_header-clause-fault : goal.returns-in-Err-read_header-clause-fault
+returns-in-Err-read_header-clause-fault c =
+    let more : is_end c.text_of-codes.result.now ≡ false = sym c.is_end.ensures ∙ c.if-is_end.false in
+    let is_text : told c.args.text.now.packed c.text_of-codes.result.now ≡ text_of (text_in c.args.text.now) =
+    ap (told c.args.text.now.packed) (c.text_of-codes.ensures ∙ ap text_of c.as_slice.ensures.value)
+    ∙ told_text c.args.text.now.packed c.args.text.now.codes.items in
+    header_keys_fault (text_in c.args.text.now) (told c.args.text.now.packed c.text_of-codes.result.now) c.as_slice-2.result.now
+    (told c.args.text.now.packed c.in-Ok.body.now) c.in-Err-read_header.why
+    c.refused_at-in-Err-read_header.result is_text
+    (next_of c.args.text.now.packed c.text_of-codes.result.now c.next_line.new.line.items c.in-Ok.body.now c.as_slice-2.result.now
+    c.in-Ok.ensures more c.as_slice-2.ensures.value)
+    c.in-Err-read_header.ensures c.refused_at-in-Err-read_header.ensures
+
+pub returns-in-Err-read_body-clause-fault : goal.returns-in-Err-read_body-clause-fault
+returns-in-Err-read_body-clause-fault c =
+    let more : is_end c.text_of-codes.result.now ≡ false = sym c.is_end.ensures ∙ c.if-is_end.false in
+    let is_text : told c.args.text.now.packed c.text_of-codes.result.now ≡ text_of (text_in c.args.text.now) =
+    ap (told c.args.text.now.packed) (c.text_of-codes.ensures ∙ ap text_of c.as_slice.ensures.value)
+    ∙ told_text c.args.text.now.packed c.args.text.now.codes.items in
+    later_keys_fault (text_in c.args.text.now) (told c.args.text.now.packed c.text_of-codes.result.now) c.as_slice-2.result.now
+    (told c.args.text.now.packed c.in-Ok.body.now)
+    (head_seen c.in-Ok-read_header.header) c.in-Err-read_body.fault is_text
+    (next_of c.args.text.now.packed c.text_of-codes.result.now c.next_line.new.line.items c.in-Ok.body.now c.as_slice-2.result.now
+    c.in-Ok.ensures more c.as_slice-2.ensures.value)
+    c.in-Ok-read_header.ensures
+    (c.in-Err-read_body.ensures.fault (head_seen c.in-Ok-read_header.header)
+    (subst (λ (key : Option (List ℕ)). AreKeysRead (head_seen c.in-Ok-read_header.header) key [] c.in-Ok-new.reader)
+    c.in-Ok-first_key.ensures c.in-Ok-new.ensures.read))
+
+pub returns-in-Ok-finish_all-clause-logs : goal.returns-in-Ok-finish_all-clause-logs
+returns-in-Ok-finish_all-clause-logs c =
+    let more : is_end c.text_of-codes.result.now ≡ false = sym c.is_end.ensures ∙ c.if-is_end.false in
+    let is_text : told c.args.text.now.packed c.text_of-codes.result.now ≡ text_of (text_in c.args.text.now) =
+    ap (told c.args.text.now.packed) (c.text_of-codes.ensures ∙ ap text_of c.as_slice.ensures.value)
+    ∙ told_text c.args.text.now.packed c.args.text.now.codes.items in
+    keys_assembled (text_in c.args.text.now) (told c.args.text.now.packed c.text_of-codes.result.now) c.as_slice-2.result.now
+    (told c.args.text.now.packed c.in-Ok.body.now)
+    (head_seen c.in-Ok-read_header.header) c.unwrap_or-limit.result c.read_body.new.reader _ is_text
+    (next_of c.args.text.now.packed c.text_of-codes.result.now c.next_line.new.line.items c.in-Ok.body.now c.as_slice-2.result.now
+    c.in-Ok.ensures more c.as_slice-2.ensures.value)
+    c.in-Ok-read_header.ensures
+    (c.in-Ok-read_body.ensures.read (head_seen c.in-Ok-read_header.header)
+    (subst (λ (key : Option (List ℕ)). AreKeysRead (head_seen c.in-Ok-read_header.header) key [] c.in-Ok-new.reader)
+    c.in-Ok-first_key.ensures c.in-Ok-new.ensures.read)) c.unwrap_or-limit.ensures c.in-Ok-finish_all.ensures

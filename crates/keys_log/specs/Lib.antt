@@ -1,0 +1,3 @@
+pub mod KeyFaults
+pub mod Keys
+pub mod inner

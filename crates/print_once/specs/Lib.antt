@@ -1,2 +1,0 @@
-pub mod KeysText
-pub mod Text
