@@ -1,5 +1,5 @@
 -- What was found is what stands at the place.
-use Rattle.std.proofs.Common.{◌≡◌, Some, None, slice_get, length, refl, rules}
+use Rattle.std.proofs.Common.{◌≡◌, Some, None, slice_get, length, refl}
 use Rattle.std.proofs.lemmas.Option.{slice_get_read, slice_get_past}
 use Rattle.history_search.proofs.span.found_at.Goals as goal
 
