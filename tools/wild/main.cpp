@@ -40,10 +40,46 @@ static void leave_thread() {}
 
 static nidzaru_log logs[writers + readers];
 static pthread_barrier_t start;
+static std::vector<int> processors;
+
+static void find_processors() {
+    cpu_set_t may;
+    if (pthread_getaffinity_np(pthread_self(), sizeof may, &may)) return;
+    for (int k = 0; k < CPU_SETSIZE; k++)
+        if (CPU_ISSET(k, &may)) processors.push_back(k);
+}
+
+static void move_to(uint64_t place) {
+    cpu_set_t one;
+    if (processors.empty()) return;
+    CPU_ZERO(&one);
+    CPU_SET(processors[place % processors.size()], &one);
+    (void)pthread_setaffinity_np(pthread_self(), sizeof one, &one);
+}
+
+// Keeps the threads out of step. Each has a processor of its own, as two on one take turns. Every 1,000 operations all move on to the next
+// ones, since some two may show little for a while. Before each operation a thread waits a random time, of any order of magnitude up to
+// some hundred turns of a loop.
+class stagger {
+    uint64_t me, operations = 0, seed;
+
+  public:
+    explicit stagger(int who) : me(static_cast<uint64_t>(who)), seed(88172645463325252u + me) {}
+    void wait() {
+        if (operations % 1000 == 0) move_to(me + operations / 1000);
+        operations++;
+        seed ^= seed << 13;
+        seed ^= seed >> 7;
+        seed ^= seed << 17;
+        for (uint64_t left = (seed >> 32) % (uint64_t(1) << seed % 11); left > 0; left--) asm volatile("");
+    }
+};
 
 static void write_all(int me, nidzaru_log *log) {
+    stagger step(me);
     for (uint64_t number = 1 + static_cast<uint64_t>(me); !nidzaru_log_is_full(log); number += writers) {
         record made = record_of(number);
+        step.wait();
         nidzaru_log_begin_write(log, number, &made, sizeof made);
         write_register(me, made);
         nidzaru_log_end_write(log);
@@ -52,7 +88,9 @@ static void write_all(int me, nidzaru_log *log) {
 
 static void read_all(int me, nidzaru_log *log) {
     record found = record_of(0);
+    stagger step(me);
     while (!nidzaru_log_is_full(log)) {
+        step.wait();
         nidzaru_log_begin_read(log);
         read_register(me, found);
         nidzaru_log_end_read(log, found.words[0], &found, sizeof found);
@@ -77,6 +115,7 @@ int main(int count, char **words) {
     pthread_t threads[tasks];
     record opening = record_of(0);
     open_register(opening);
+    find_processors();
     pthread_barrier_init(&start, nullptr, tasks);
     for (int k = 0; k < tasks; k++) {
         all[k] = &logs[k];

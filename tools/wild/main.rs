@@ -10,7 +10,9 @@ use crossbeam_queue::ArrayQueue;
 use log::{merge, pace, Log, Record};
 use std::cell::UnsafeCell;
 use std::error::Error;
+use std::hint::black_box;
 use std::io::{self, BufWriter};
+use std::mem::size_of;
 use std::sync::Barrier;
 use std::{env, thread};
 
@@ -79,19 +81,71 @@ fn register(name: &str) -> Option<(Box<dyn Register>, usize)> {
     }
 }
 
-fn write_all(register: &dyn Register, log: &mut Log) {
+// (the C library's, with which every program is linked: 0 is the thread that asks)
+extern "C" {
+    fn sched_getaffinity(task: i32, size: usize, set: *mut u64) -> i32;
+    fn sched_setaffinity(task: i32, size: usize, set: *const u64) -> i32;
+}
+
+type Set = [u64; 16];
+
+/// The processors on which this thread may run.
+fn processors() -> Vec<usize> {
+    let mut may: Set = [0; 16];
+    unsafe { sched_getaffinity(0, size_of::<Set>(), may.as_mut_ptr()) };
+    (0..1024).filter(|at| may[at / 64] >> (at % 64) & 1 == 1).collect()
+}
+
+/// What keeps the threads out of step, as in main.cpp.
+struct Stagger<'a> {
+    processors: &'a [usize],
+    me: usize,
+    operations: usize,
+    seed: u64,
+}
+
+impl<'a> Stagger<'a> {
+    fn new(processors: &'a [usize], me: usize) -> Self {
+        Stagger { processors, me, operations: 0, seed: 88_172_645_463_325_252 + me as u64 }
+    }
+
+    fn move_to(&self, place: usize) {
+        if let Some(at) = place.checked_rem(self.processors.len()).map(|at| self.processors[at]) {
+            let mut one: Set = [0; 16];
+            one[at / 64] = 1 << (at % 64);
+            unsafe { sched_setaffinity(0, size_of::<Set>(), one.as_ptr()) };
+        }
+    }
+
+    fn wait(&mut self) {
+        if self.operations % 1000 == 0 {
+            self.move_to(self.me + self.operations / 1000);
+        }
+        self.operations += 1;
+        self.seed ^= self.seed << 13;
+        self.seed ^= self.seed >> 7;
+        self.seed ^= self.seed << 17;
+        for left in 0..(self.seed >> 32) % (1 << (self.seed % 11)) {
+            black_box(left);
+        }
+    }
+}
+
+fn write_all(register: &dyn Register, log: &mut Log, mut step: Stagger) {
     for number in 1.. {
         if log.is_full() {
             break;
         }
+        step.wait();
         let item = item(number);
         log.write(Record::of_words(&item), || register.write(item));
     }
 }
 
-fn read_all(register: &dyn Register, log: &mut Log) {
+fn read_all(register: &dyn Register, log: &mut Log, mut step: Stagger) {
     let mut last = item(0);
     while !log.is_full() {
+        step.wait();
         last = log.read(|| register.read(last), |item| Record::of_words(item));
     }
 }
@@ -105,16 +159,16 @@ fn main() -> Result<(), Box<dyn Error>> {
     let opened = (0..tasks as u64).map(|who| Log::new(who, room).map(|log| if unfenced.is_empty() { log } else { log.unfenced() }));
     let mut logs = opened.collect::<Result<Vec<Log>, _>>()?;
     pace(&mut logs, ahead.parse()?);
-    let start = Barrier::new(tasks);
+    let (start, processors) = (Barrier::new(tasks), processors());
     thread::scope(|threads| {
         for (me, log) in logs.iter_mut().enumerate() {
-            let start = &start;
+            let (start, step) = (&start, Stagger::new(&processors, me));
             threads.spawn(move || {
                 start.wait();
                 if me == 0 {
-                    write_all(register, log)
+                    write_all(register, log, step)
                 } else {
-                    read_all(register, log)
+                    read_all(register, log, step)
                 }
             });
         }

@@ -6,9 +6,9 @@
                         too, and tells of how many runs each was refused
     run.py --table      prints the table of what was run, for docs/WILD.md
 
-A thread waits while it is --ahead operations ahead of the slowest. With 1 many records are read, though others want the processors; but two
-threads may then take turns for long, and half of the records are read, and none torn. A queue is full only if its writer may be ahead by
-more.
+A thread waits while it is --ahead operations ahead of the slowest. With 1 many records are read, though others want the processors. Two
+threads on one processor take turns then, and half of the records are read, and none torn: so each has a processor of its own, another one
+every 1,000 operations, and waits a random short time before each. A queue is full only if its writer may be ahead by more.
 
 Each register is a file of registers/, built with the recorder and g++, or one of main.rs, built with the recorder for Rust and cargo. What
 was seen of it stands in out/wild/NAME.json. A register whose package isn't there is left out and told. Those that have to be lawful, and
@@ -79,7 +79,7 @@ REGISTERS = [Register(*it) for it in (
 # How many times --operations of them a run makes, and how many a thread may be ahead, if not 1 and 1: fewer where calls are slow or threads
 # are many, more where a fault is rarely seen.
 PACES = {"gpsd": (0.2, 1), "renamed": (0.2, 1), "array_queue": (0.2, 1), "channel": (0.2, 1), "jack": (1, 8), "tbb_vector": (2, 1),
-         "gpsd_keep": (3, 1), "tbb_bounded": (3, 1), "seqlock_no_wmb": (3, 1), "rust_volatile": (6, 3)}
+         "gpsd_keep": (3, 1), "tbb_bounded": (3, 1), "seqlock_no_wmb": (3, 1), "rust_volatile": (6, 1)}
 # The crate of the registers in Rust, with the sources that Debian has.
 MANIFEST = f"""[package]
 name = "wild"
