@@ -43,17 +43,18 @@ stale_text thinned before read =
     number_text (codes "Line ") (line_at read) ++ codes " gave the opening behind an operation of another record: "
     ++ apart_text thinned before read ++ codes ".\n"
 
--- two lines, which may be one
-abbrev pub two_lines : ℕ → ℕ → List ℕ
-two_lines b c = if nat_eq b c then number_text (codes "line ") (line_at b)
+-- the lines of the other record: one between the first two, or two
+abbrev pub others_text : ℕ → ℕ → List ℕ
+others_text b c =
+    if nat_eq b c then number_text (codes "and line ") (line_at b) ++ codes ", of another, stands between them: "
     else number_text (codes "lines ") (line_at b) ++ number_text (codes " and ") (line_at c)
+    ++ codes " of another, and each record has to stand before the other: "
 
 -- a and d are of one record, b and c of another
 abbrev pub records_text : ℕ → ℕ → ℕ → ℕ → List ℕ
 records_text a b c d =
     number_text (codes "Lines ") (line_at a) ++ number_text (codes " and ") (line_at d)
-    ++ codes " are of one record, " ++ two_lines b c
-    ++ codes " of another, and each record has to stand before the other: "
+    ++ codes " are of one record, " ++ others_text b c
 
 abbrev pub crossed_text : Thinned → ℕ → ℕ → ℕ → ℕ → List ℕ
 crossed_text thinned a b c d =

@@ -1,8 +1,8 @@
 //! A reason in one sentence.
 ghost use Rattle.std.specs.Prelude.{◌≡◌, ◌++◌, OnOk, codes};
 ghost use Rattle.print_reasons.specs.Sentences.{apart_text, begin_at, crossed_text, early_text, end_at};
-ghost use Rattle.print_reasons.specs.Sentences.{limit_text, number_text, op_at};
-ghost use Rattle.print_reasons.specs.Sentences.{records_text, sentence_text, stale_text, two_lines, unwritten_text};
+ghost use Rattle.print_reasons.specs.Sentences.{limit_text, number_text, op_at, others_text};
+ghost use Rattle.print_reasons.specs.Sentences.{records_text, sentence_text, stale_text, unwritten_text};
 ghost use Rattle.text_lines.specs.Places.{line_at};
 
 use crate::named::kept_at;
@@ -101,23 +101,24 @@ fn push_records(
     push_line_of(text, "Lines ", a)?;
     push_line_of(text, " and ", d)?;
     push_words(text, " are of one record, ")?;
-    push_two_lines(text, b, c)?;
-    push_words(
-        text,
-        " of another, and each record has to stand before the other: ",
-    )
+    push_others(text, b, c)
 }
 
-/// Two lines, which may be one.
-#[tactic(auto, using(std::proofs::Common::append_assoc))]
-fn push_two_lines(text: &mut Vec<u8>, b: usize, c: usize) -> Result<(), AllocError>
-    ensures { OnOk result (text.new.items ≡ text.old.items ++ two_lines b c) }
+/// The lines of the other record, which may be one between the first two.
+#[tactic(auto, unfolding(crate::specs::Sentences::others_text), using(std::proofs::Common::append_assoc))]
+fn push_others(text: &mut Vec<u8>, b: usize, c: usize) -> Result<(), AllocError>
+    ensures { OnOk result (text.new.items ≡ text.old.items ++ others_text b c) }
 {
     if b == c {
-        push_line_of(text, "line ", b)
+        push_line_of(text, "and line ", b)?;
+        push_words(text, ", of another, stands between them: ")
     } else {
         push_line_of(text, "lines ", b)?;
-        push_line_of(text, " and ", c)
+        push_line_of(text, " and ", c)?;
+        push_words(
+            text,
+            " of another, and each record has to stand before the other: ",
+        )
     }
 }
 

@@ -169,8 +169,11 @@ def sentence(rule, lines, opening, limit, ops):
     if rule == "stale":
         return f"Line {lines[1]} gave the opening behind an operation of another record: {apart(*lines)}.\n"
     if rule == "crossed":
-        one, other = f"Lines {first} and {lines[3]} are of one record", " and ".join(map(str, dict.fromkeys(lines[1:3])))
-        both = f"{one}, line{'' if lines[1] == lines[2] else 's'} {other} of another, and each record has to stand before the other"
+        one = f"Lines {first} and {lines[3]} are of one record"
+        if lines[1] == lines[2]:
+            both = f"{one}, and line {lines[1]}, of another, stands between them"
+        else:
+            both = f"{one}, lines {lines[1]} and {lines[2]} of another, and each record has to stand before the other"
         return f"{both}: {apart(*lines[:2])}; {apart(*lines[2:])}.\n"
     own = of_key(ops, ops[first - 2]["key"])
     return (f"Of the writes at most {most_before(opening, own)} can stand before line {first} or a refused write in front of it, "
