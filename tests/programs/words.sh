@@ -446,7 +446,8 @@ answers_once() {
                 printf 'fsr: line 1: law of repeats; `fsr order` without `--coherent` takes it\n3\n' >"$room/wanted"
             elif grep -q '"key"' "$document"; then
                 keyed=$((keyed + 1))
-                printf 'fsr: line %s: law of key\n3\n' "$(other_key "$document")" >"$room/wanted"
+                printf 'fsr: line %s: law of key; such a log has one key, that of its first operation\n3\n' \
+                    "$(other_key "$document")" >"$room/wanted"
             fi
             ;;
         esac
