@@ -59,7 +59,7 @@ static void move_to(uint64_t place) {
 
 // Keeps the threads out of step. Each has a processor of its own, as two on one take turns. Every 1,000 operations all move on to the next
 // ones, since some two may show little for a while. Before each operation a thread waits a random time, of any order of magnitude up to
-// some hundred turns of a loop.
+// a thousand turns of a loop.
 class stagger {
     uint64_t me, operations = 0, seed;
 
