@@ -17,12 +17,12 @@ use std::alloc::{AllocError, Global};
 
 /// How many configurations are held at most.
 const WIDEST: usize = 512;
-/// What the width and the number of marks to go back grow by where nothing is left.
-const GROWS_BY: usize = 4;
+/// What the width grows by where nothing is left.
+const GROWS_BY: usize = 2;
 /// The events from one mark to the next.
 const MARK_EVERY: usize = 512;
 /// How often an event may be passed, in the mean, where few are held.
-const PASSES: usize = 2;
+const PASSES: usize = 4;
 /// What may be passed beside that, so that a short log has room to be wider.
 const SPARE: usize = 128;
 /// How many operations that have an end may be under way at once.
@@ -80,15 +80,21 @@ impl Beam {
         Beam {
             width: self.width.saturating_mul(GROWS_BY),
             sparing: false,
-            back: self.back.saturating_mul(GROWS_BY),
+            back: self.width / NARROW,
             until,
         }
     }
 
-    /// The same, or the narrow one where it has gone far enough.
+    /// The same, or a narrower one where it has gone far enough.
     const fn behind(self, done: usize) -> Beam {
         if done < self.until {
             self
+        } else if self.width > NARROW {
+            Beam {
+                width: self.width / GROWS_BY,
+                until: done.saturating_add(MARK_EVERY),
+                ..self
+            }
         } else {
             Beam::narrow()
         }
