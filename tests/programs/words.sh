@@ -294,6 +294,36 @@ printf 'lawful\n2 operations, 0 unfinished, 0 uncertain, 3 records; no last line
 ends_fsr 0 out order --budget 5 "$room/two.jsonl"
 ends_fsr 0 out order "$room/two.jsonl"
 
+# Nobody wrote what line 13 reads. Line 3 had ended last when it began, and line 2 before that; nine writes ran beside it, and line 14 began
+# behind its end. Eight of those that it could see are shown.
+{
+    echo '{"kind":"lines","opening":0}'
+    echo '{"who":0,"kind":"write","begin":0,"end":1,"record":1}'
+    echo '{"who":0,"kind":"write","begin":2,"end":3,"record":2}'
+    for who in $(seq 9); do
+        echo '{"who":'"$who"',"kind":"write","begin":'"$((3 + who))"',"end":30,"record":'"$((2 + who))}"
+    done
+    echo '{"who":10,"kind":"read","begin":12,"end":20,"record":99}'
+    echo '{"who":11,"kind":"write","begin":21,"end":22,"record":12}'
+} >"$room/torn.jsonl"
+{
+    echo 'unlawful unwritten 13'
+    for line in 1 3 4 5 6 7 8 9 10 13; do
+        echo "line $line: $(sed -n "${line}p" "$room/torn.jsonl")"
+    done
+    echo 'Line 13 gave a record that is neither the opening nor written.'
+    echo 'Lines of the writes that it could see: 3 4 5 6 7 8 9 10 and more.'
+    echo '13 operations, 0 unfinished, 14 records, 1 of them read; no last line `done`'
+} >"$room/wanted"
+ends_fsr 1 out order "$room/torn.jsonl"
+cat >"$room/wanted" <<'DOCUMENT'
+{"kind":"log","opening":[0,0,0],"limit":1,"lines":[2,3,4],"ops":[
+ {"who":0,"kind":"write","begin":10,"end":14,"record":[2,2,2]},
+ {"who":0,"kind":"write","begin":20,"end":26,"record":[3,3,3]},
+ {"who":2,"kind":"read","begin":22,"end":25,"record":[4,4,4]}]}
+DOCUMENT
+ends_fsr 1 out order --small examples/lines_unwritten.jsonl
+
 # The read of the opening is behind the write of line 2. That of line 4 has no part in it.
 cat >"$room/stale.jsonl" <<'LOG'
 {"kind":"lines","opening":0}

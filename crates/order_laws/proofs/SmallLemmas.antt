@@ -20,9 +20,9 @@ use Rattle.history_thinning.specs.Answers.{IsKeptAt, NamesKept}
 use Rattle.history_thinning.specs.Thinnings.{Equal, IsThinnedLog}
 use Rattle.history_thinning.proofs.Reasons.{alike, kept_at, kept_known, place_of, searched, write_kept}
 use Rattle.print_reasons.specs.KeptAt.{kept_at as kept_place}
-use Rattle.print_reasons.specs.Named.{in_kept, is_item, is_named, places_of, same_item, writes_one_of}
+use Rattle.print_reasons.specs.Named.{beside, is_item, is_named, same_item, writes_one_of}
 use Rattle.text_lines.specs.Places.{line_at}
-use Rattle.small_log.specs.Small.{lines_of, named_of, one_or_none, small_lines, small_ops}
+use Rattle.small_log.specs.Small.{lines_of, named_of, one_or_none, shown_in, small_lines, small_ops}
 use Rattle.order_laws.proofs.LoneLemmas.{IsLone, IsSource}
 use Rattle.order_laws.proofs.ToldLemmas.{AreLines}
 
@@ -295,11 +295,11 @@ module _ (limit : ℕ) (log : List (Op ℕ)) (thinned : Thinned) (is : IsThinned
 
   -- is in the small log, if it is named
   in_small : (reason : Reason) (p : ℕ) (o : Op ℕ) → IsKeptAt thinned.places p → slice_get log p ≡ Some o →
-      list_any (λ q. nat_eq q (kept_place thinned.places p)) (places_of (in_kept thinned.places reason)) ≡ true →
+      list_any (λ q. nat_eq q (kept_place thinned.places p)) (shown_in thinned reason) ≡ true →
       (i : ℕ) × (slice_get (small_ops thinned reason) i ≡ Some o)
-      × (i ≡ length (named_of thinned.history.ops (places_of (in_kept thinned.places reason)) (kept_place thinned.places p)))
+      × (i ≡ length (named_of thinned.history.ops (shown_in thinned reason) (kept_place thinned.places p)))
   in_small reason p o w e t =
-      let named = places_of (in_kept thinned.places reason) in
+      let named = shown_in thinned reason in
       let k = kept_place thinned.places p in
       let at = at_kept p o w e in
       has thinned.history.ops named (length thinned.history.ops) k o (slice_get_within thinned.history.ops k o at)
@@ -313,7 +313,7 @@ module _ (limit : ℕ) (log : List (Op ℕ)) (thinned : Thinned) (is : IsThinned
   pub small_known : (reason : Reason) → IsSearched Equal 0 (small_ops thinned reason)
   small_known reason =
       let ops = thinned.history.ops in
-      let named = places_of (in_kept thinned.places reason) in
+      let named = shown_in thinned reason in
       record {
         alike = alike;
         forwards = λ p end o at e. let w = from ops named (length ops) p o at in kept.forwards w.0 end o w.2 e;
@@ -335,7 +335,7 @@ module _ (limit : ℕ) (log : List (Op ℕ)) (thinned : Thinned) (is : IsThinned
   of_log : (reason : Reason) (i : ℕ) (o : Op ℕ) → slice_get (small_ops thinned reason) i ≡ Some o →
       (p : ℕ) × (slice_get log p ≡ Some o)
   of_log reason i o e =
-      let w = from thinned.history.ops (places_of (in_kept thinned.places reason)) (length thinned.history.ops) i o e in
+      let w = from thinned.history.ops (shown_in thinned reason) (length thinned.history.ops) i o e in
       let v = place_of log thinned.history.ops thinned.places is.kept known w.0 o w.2 in (v.0, v.2)
 
   -- a reason of the same rule
@@ -343,7 +343,7 @@ module _ (limit : ℕ) (log : List (Op ℕ)) (thinned : Thinned) (is : IsThinned
       (again : Reason) × (rule_of again ≡ rule_of reason) × IsReason Equal 0 limit (small_ops thinned reason) again
   by_same_rule (Unwritten read) r w l =
       let k = kept_place thinned.places read in
-      let i = in_small (Unwritten read) read r.op w r.at (here k [] []) in (
+      let i = in_small (Unwritten read) read r.op w r.at (here k [] (beside thinned.history.ops (Unwritten k))) in (
         Unwritten i.0,
         refl,
         record {
@@ -430,7 +430,7 @@ module _ (limit : ℕ) (log : List (Op ℕ)) (thinned : Thinned) (is : IsThinned
       (w : ℕ) × (b : Op ℕ) × (slice_get (small_ops thinned reason) w ≡ Some b) × (is_write b.kind ≡ true) × OfOneRecord Equal o b
   sourced reason i p o a e at t one =
       let ops = thinned.history.ops in
-      let named = places_of (in_kept thinned.places reason) in
+      let named = shown_in thinned reason in
       let w = from ops named (length ops) i o e in
       let s = shares Equal o a one in
       let same : s.x ≡ s.y = s.same in
@@ -445,13 +445,13 @@ module _ (limit : ℕ) (log : List (Op ℕ)) (thinned : Thinned) (is : IsThinned
       and_true true c t = refl
       and_true false c t = cc
 
-      by : (k x : ℕ) (b : Bool) → list_any (λ q. nat_eq q k) (places_of (in_kept thinned.places reason)) ≡ b →
+      by : (k x : ℕ) (b : Bool) → list_any (λ q. nat_eq q k) (shown_in thinned reason) ≡ b →
           slice_get thinned.history.ops k ≡ Some o → o.item ≡ Some x → a.item ≡ Some x →
-          (b || writes_one_of thinned.history.ops (places_of (in_kept thinned.places reason)) (Some o)) ≡ true →
+          (b || writes_one_of thinned.history.ops (shown_in thinned reason) (Some o)) ≡ true →
           (w : ℕ) × (b : Op ℕ) × (slice_get (small_ops thinned reason) w ≡ Some b) × (is_write b.kind ≡ true) × OfOneRecord Equal o b
       by k x true any ek has_o has_a h =
           let ops = thinned.history.ops in
-          let named = places_of (in_kept thinned.places reason) in
+          let named = shown_in thinned reason in
           let v = write_kept log ops thinned.places is.kept known p a at t in
           let yes : writes_one_of ops named (slice_get ops v.0) ≡ true =
           ap (writes_one_of ops named) v.2 ∙ write_named ops named k x o a any ek has_o has_a t in
@@ -629,4 +629,4 @@ module _ (limit : ℕ) (log : List (Op ℕ)) (thinned : Thinned) (is : IsThinned
           omega arith
 
   pub own_lines : (reason : Reason) → AreLines (small_lines thinned reason) (small_ops thinned reason)
-  own_lines reason = are_lines thinned.history.ops (places_of (in_kept thinned.places reason)) thinned.places is.kept.long is.kept.rise
+  own_lines reason = are_lines thinned.history.ops (shown_in thinned reason) thinned.places is.kept.long is.kept.rise

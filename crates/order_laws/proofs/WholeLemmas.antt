@@ -16,8 +16,8 @@ use Rattle.history_thinning.specs.Answers.{IsKeptAt, NamesKept}
 use Rattle.history_thinning.specs.Thinnings.{Equal, IsThinnedLog, one_term}
 use Rattle.keys_log.specs.Keys.{is_of, lines_of_key, places_from, places_of_key}
 use Rattle.print_reasons.specs.KeptAt.{kept_at as kept_place}
-use Rattle.print_reasons.specs.Named.{in_kept, places_of}
-use Rattle.small_log.specs.Small.{lines_of, named_of, small_lines, small_ops, told_ops}
+use Rattle.print_reasons.specs.Named.{in_kept, shown_of}
+use Rattle.small_log.specs.Small.{lines_of, named_of, shown_in, small_lines, small_ops, told_ops}
 use Rattle.print_keys.specs.KeysText.{whole_place, whole_places, whole_reason, whole_thinned}
 use Rattle.order_laws.proofs.PrintedLemmas.{unlawful_told}
 use Rattle.order_laws.proofs.SmallLemmas.{are_lines}
@@ -130,16 +130,16 @@ module _ (ws : List ℕ) (rise : Rise ws) where
   cons_same : {a b : ℕ} {xs ys : List ℕ} → a ≡ b → xs ≡ ys → a ∷ xs ≡ b ∷ ys
   cons_same {a = a} {b = b} {xs = xs} {ys = ys} e f = ap (λ (z : ℕ). z ∷ xs) e ∙ ap (λ (zs : List ℕ). b ∷ zs) f
 
-  pub named_same : (places : List ℕ) → AreWithin ws places → (reason : Reason) → NamesKept places reason →
-      places_of (in_kept (whole_places ws places) (whole_reason ws reason)) ≡ places_of (in_kept places reason)
-  named_same places within (Unwritten read) w = cons_same (one_same places within read w) refl
-  named_same places within (Early read write) w =
+  pub named_same : (ops : List (Op ℕ)) (places : List ℕ) → AreWithin ws places → (reason : Reason) → NamesKept places reason →
+      shown_of ops (in_kept (whole_places ws places) (whole_reason ws reason)) ≡ shown_of ops (in_kept places reason)
+  named_same ops places within (Unwritten read) w = ap (λ (z : ℕ). shown_of ops (Unwritten z)) (one_same places within read w)
+  named_same ops places within (Early read write) w =
       cons_same (one_same places within read w.0) (cons_same (one_same places within write w.1) refl)
-  named_same places within (Stale before read) w =
+  named_same ops places within (Stale before read) w =
       cons_same (one_same places within before w.0) (cons_same (one_same places within read w.1) refl)
-  named_same places within (Crossed a b c d) w = cons_same (one_same places within a w.0) (cons_same (one_same places within b w.1)
+  named_same ops places within (Crossed a b c d) w = cons_same (one_same places within a w.0) (cons_same (one_same places within b w.1)
       (cons_same (one_same places within c w.2) (cons_same (one_same places within d w.3) refl)))
-  named_same places within (Limit refused) w = cons_same (one_same places within refused w) refl
+  named_same ops places within (Limit refused) w = cons_same (one_same places within refused w) refl
 
   pub kept_rise : (places : List ℕ) → AreWithin ws places →
       Rise places → Rise (whole_places ws places)
@@ -160,14 +160,14 @@ pub whole_told : (limit : ℕ) (log : List (Op ℕ)) (thinned : Thinned) (ws : L
     (small_ops (whole_thinned ws thinned) (whole_reason ws reason))) again
 whole_told limit log thinned ws reason is rise long unlawful kept =
     let ops = thinned.history.ops in
-    let own = places_of (in_kept thinned.places reason) in
+    let own = shown_in thinned reason in
     let places = whole_places ws thinned.places in
     let lines = are_lines ops own places (length-map thinned.places (whole_place ws) ∙ is.kept.long)
     (kept_rise ws rise thinned.places kept_within is.kept.rise) in
     let P : List ℕ → Type 0 = λ named. (again : Reason) × (rule_of again ≡ rule_of reason)
     × IsUnlawful Equal 0 limit (one_term limit)
     (told_ops (lines_of ops named places (length ops)) (named_of ops named (length ops))) again in
-    subst P (sym (named_same ws rise thinned.places kept_within reason kept))
+    subst P (sym (named_same ws rise ops thinned.places kept_within reason kept))
     (unlawful_told limit log thinned is reason (lines_of ops own places (length ops)) lines kept unlawful)
   where
     kept_within : (i q : ℕ) → slice_get thinned.places i ≡ Some q → q < length ws

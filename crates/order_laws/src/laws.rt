@@ -1,7 +1,7 @@
 //! Laws over the definitions.
 
 ghost use Rattle.std.specs.Prelude.{◌≡◌, ◌≢◌, ◌≤◌, ◌↔◌, ℕ, List, [], Option, Result, false, true};
-ghost use Rattle.std.specs.Prelude.{unwrap_or};
+ghost use Rattle.std.specs.Prelude.{Some, slice_get, unwrap_or};
 ghost use Rattle.history_core.specs.Orders.{IsVerdict, KeepsPrecedence};
 ghost use Rattle.history_core.specs.Reasons.{IsReason, rule_of};
 ghost use Rattle.history_core.specs.Searches.{IsUnlawful};
@@ -30,9 +30,11 @@ ghost use Rattle.print_keys.specs.KeysText.{whole_reason, whole_thinned};
 ghost use Rattle.fsr_once_answers.specs.LinesAnswers.{status_of};
 ghost use Rattle.fsr_once_answers.specs.Once.{IsAnswerOnce};
 ghost use Rattle.print_reasons.specs.LogText.{shown_text};
+ghost use Rattle.print_reasons.specs.Seen.{could_see};
 ghost use Rattle.fsr_order_answers.specs.Order.{IsOrderAnswer};
 ghost use Rattle.order_laws.specs.OneKey.{AreOfOneKey};
 ghost use Rattle.order_laws.specs.Parts.{IsOnceOrNone};
+ghost use Rattle.order_laws.specs.Regular.{IsVisible};
 
 use history_thinning::laws::tasks_in_order;
 
@@ -96,4 +98,15 @@ pub fn once_as_any()
 pub fn document_as_any()
     ensures { (show : Show) (bytes : List ℕ) (reply : Result Answer Fault) → are_lines bytes ≡ false →
         IsLogAnswer bytes reply → IsOrderAnswer show bytes reply }
+{}
+
+/// The writes that an operation could see, as the answer to a log shows them, are those that a read of a regular register
+/// may see.
+pub fn seen_are_regular()
+    ensures each { (ops : List (Op ℕ)) (k end : ℕ) (read : Op ℕ) → slice_get ops k ≡ Some read → read.ends ≡ Some end →
+        (i p : ℕ) → slice_get (could_see ops k) i ≡ Some p →
+        (write : Op ℕ) × (slice_get ops p ≡ Some write) × IsVisible ops end read write }
+    ensures all { (ops : List (Op ℕ)) (k end : ℕ) (read : Op ℕ) → slice_get ops k ≡ Some read → read.ends ≡ Some end →
+        (p : ℕ) (write : Op ℕ) → slice_get ops p ≡ Some write → IsVisible ops end read write →
+        (i : ℕ) × (slice_get (could_see ops k) i ≡ Some p) }
 {}

@@ -1,11 +1,12 @@
 -- Which of the kept operations a reason names (this project's own).
-use Rattle.std.specs.Prelude.{ℕ, ◌&&◌, ◌||◌, List, [], ◌∷◌, Bool, false, nat_eq, slice_get, Option, Some, None}
+use Rattle.std.specs.Prelude.{ℕ, ◌++◌, ◌&&◌, ◌||◌, List, [], ◌∷◌, Bool, false, nat_eq, slice_get, take, Option, Some, None}
 use Rattle.std.specs.List.{list_any}
 use Rattle.history_core.specs.declared.history.Op.{Op}
 use Rattle.history_core.specs.Orders.{is_write}
 use Rattle.history_core.specs.declared.reason.Reason.{Reason}
 use Rattle.history_core.specs.declared.reason.Reason.TheVariants.{Unwritten, Early, Stale, Crossed, Limit}
 use Rattle.print_reasons.specs.KeptAt.{kept_at}
+use Rattle.print_reasons.specs.Seen.{could_see, most_seen}
 
 -- a reason by the kept operations
 abbrev pub in_kept : List ℕ → Reason → Reason
@@ -22,6 +23,17 @@ places_of (Early read write) = read ∷ write ∷ []
 places_of (Stale before read) = before ∷ read ∷ []
 places_of (Crossed a b c d) = a ∷ b ∷ c ∷ d ∷ []
 places_of (Limit refused) = refused ∷ []
+
+-- what is shown beside them: where an operation gave a record that nobody wrote, the first writes that it could see
+abbrev pub beside : List (Op ℕ) → Reason → List ℕ
+beside ops (Unwritten read) = take most_seen (could_see ops read)
+beside ops (Early read write) = []
+beside ops (Stale before read) = []
+beside ops (Crossed a b c d) = []
+beside ops (Limit refused) = []
+
+abbrev pub shown_of : List (Op ℕ) → Reason → List ℕ
+shown_of ops reason = places_of reason ++ beside ops reason
 
 abbrev pub is_item : ℕ → Option ℕ → Bool
 is_item x None = false

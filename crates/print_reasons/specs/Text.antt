@@ -1,5 +1,6 @@
 -- The printed lines of a search for an order of a log in lines (this project's own).
-use Rattle.std.specs.Prelude.{ℕ, ◌+◌, ◌++◌, ◌&&◌, List, [], ◌∷◌, drop, codes, Bool, if◌then◌else◌, slice_get}
+use Rattle.std.specs.Prelude.{ℕ, ◌+◌, ◌++◌, ◌&&◌, List, [], ◌∷◌, drop, codes, Bool, false, true, if◌then◌else◌}
+use Rattle.std.specs.Prelude.{slice_get}
 use Rattle.std.specs.Fmt.{decimal}
 use Rattle.std.specs.List.{flat_map}
 use Rattle.history_core.specs.declared.history.Op.{Op}
@@ -11,7 +12,7 @@ use Rattle.history_core.specs.declared.thinned.Thinned.{Thinned}
 use Rattle.print_search.specs.Text.{reason_text}
 use Rattle.text_lines.specs.Splits.{lines_of}
 use Rattle.text_lines.specs.Places.{line_at}
-use Rattle.print_reasons.specs.Named.{in_kept, is_item, is_named, places_of}
+use Rattle.print_reasons.specs.Named.{in_kept, is_item, is_named, shown_of}
 use Rattle.print_reasons.specs.Sentences.{number_text, sentence_text}
 
 -- a reason by its lines
@@ -51,11 +52,32 @@ named_text ops places named next p (line ∷ lines) =
 abbrev pub body_of : List ℕ → List (List ℕ)
 body_of bytes = drop 1 (lines_of bytes)
 
--- a reason, the operations that it names with the writes of their records, and a sentence
+-- whether a reason speaks of the opening
+abbrev pub is_of_opening : Reason → Bool
+is_of_opening (Unwritten read) = true
+is_of_opening (Early read write) = false
+is_of_opening (Stale before read) = true
+is_of_opening (Crossed a b c d) = false
+is_of_opening (Limit refused) = false
+
+abbrev pub head_text : List (List ℕ) → List ℕ
+head_text [] = []
+head_text (line ∷ lines) = codes "line 1: " ++ line ++ line_feed ∷ []
+
+-- the header, which has the opening, where the reason speaks of that
+abbrev pub opening_text : Bool → List ℕ → List ℕ
+opening_text shown bytes = if shown then head_text (lines_of bytes) else []
+
+-- the operations that are shown of a reason, with the writes of their records
+abbrev pub shown_text : List ℕ → Thinned → Reason → List ℕ
+shown_text bytes thinned reason =
+    named_text thinned.history.ops thinned.places (shown_of thinned.history.ops (in_kept thinned.places reason)) 0 0
+    (body_of bytes)
+
+-- a reason, the lines that show it, and a sentence
 abbrev pub unlawful_text : List ℕ → Thinned → ℕ → Reason → List ℕ
 unlawful_text bytes thinned most reason =
-    reason_text (in_lines reason)
-    ++ named_text thinned.history.ops thinned.places (places_of (in_kept thinned.places reason)) 0 0 (body_of bytes)
+    reason_text (in_lines reason) ++ opening_text (is_of_opening reason) bytes ++ shown_text bytes thinned reason
     ++ sentence_text thinned most reason
 
 -- the lines of these writes, each behind a blank

@@ -1,10 +1,13 @@
 //! Which of the kept operations a reason names.
-ghost use Rattle.std.specs.Prelude.{◌≡◌, ◌==◌, nat_eq, slice_get, IfOk};
+ghost use Rattle.std.specs.Prelude.{◌≡◌, ◌++◌, ◌==◌, nat_eq, slice_get, take, IfOk, OnOk};
 ghost use Rattle.std.specs.List.{list_any, position};
 ghost use Rattle.print_reasons.specs.KeptAt.{kept_at};
-ghost use Rattle.print_reasons.specs.Named.{in_kept, is_item, is_named, places_of, same_item, writes_one_of};
+ghost use Rattle.print_reasons.specs.Named.{beside, in_kept, is_item, is_named, places_of, same_item, shown_of};
+ghost use Rattle.print_reasons.specs.Named.{writes_one_of};
+ghost use Rattle.print_reasons.specs.Seen.{could_see, most_seen};
 ghost use Rattle.print_reasons.specs.Text.{is_named_next, is_next, next_of};
 
+use crate::seen::{MOST_SEEN, could_see};
 use history_core::{Kind, Op, Reason};
 use std::alloc::{AllocError, Global};
 
@@ -36,8 +39,44 @@ pub fn in_kept(places: &[usize], reason: Reason) -> Reason
     }
 }
 
+/// The places that are shown of a reason by kept operations.
+pub fn shown_of(alloc: Global, ops: &[Op<usize>], reason: Reason) -> Result<Vec<usize>, AllocError>
+    ensures { IfOk result (λ places. places.items ≡ shown_of ops.now reason) }
+{
+    let mut shown = places_of(alloc, reason)?;
+    push_beside(alloc, &mut shown, ops, reason)?;
+    Ok(shown)
+}
+
+fn push_beside(
+    alloc: Global,
+    shown: &mut Vec<usize>,
+    ops: &[Op<usize>],
+    reason: Reason,
+) -> Result<(), AllocError>
+    ensures { OnOk result (shown.new.items ≡ shown.old.items ++ beside ops.now reason) }
+{
+    match reason {
+        Reason::Unwritten { read } => push_seen(alloc, shown, ops, read),
+        _ => Ok(()),
+    }
+}
+
+fn push_seen(
+    alloc: Global,
+    shown: &mut Vec<usize>,
+    ops: &[Op<usize>],
+    read: usize,
+) -> Result<(), AllocError>
+    ensures { OnOk result (shown.new.items ≡ shown.old.items ++ take most_seen (could_see ops.now read)) }
+{
+    let mut seen = could_see(alloc, ops, read)?;
+    seen.truncate(MOST_SEEN);
+    shown.extend_from_slice(seen.as_slice())
+}
+
 /// The places that a reason names.
-pub fn places_of(alloc: Global, reason: Reason) -> Result<Vec<usize>, AllocError>
+fn places_of(alloc: Global, reason: Reason) -> Result<Vec<usize>, AllocError>
     ensures { IfOk result (λ places. places.items ≡ places_of reason) }
 {
     match reason {

@@ -1,15 +1,15 @@
 //! The printed lines.
-ghost use Rattle.std.specs.Prelude.{◌≡◌, ◌++◌, map, IfOk, OnOk};
+ghost use Rattle.std.specs.Prelude.{◌≡◌, ◌++◌, ◌∷◌, [], map, IfOk, OnOk};
 ghost use Rattle.packed_text.specs.Words.{text_in, told};
 ghost use Rattle.print_reasons.specs.Sentences.{number_text};
-ghost use Rattle.print_reasons.specs.Text.{body_of, in_lines, lawful_text, line_text, named_text, unlawful_text};
-ghost use Rattle.print_reasons.specs.Text.{verdict_text, write_lines};
-ghost use Rattle.print_reasons.specs.Text.{writes_text};
+ghost use Rattle.print_reasons.specs.Text.{body_of, head_text, in_lines, is_of_opening, lawful_text, line_text};
+ghost use Rattle.print_reasons.specs.Text.{named_text, opening_text, shown_text, unlawful_text, verdict_text};
+ghost use Rattle.print_reasons.specs.Text.{write_lines, writes_text};
 ghost use Rattle.text_lines.specs.Splits.{lines_of};
 ghost use Rattle.text_lines.specs.Places.{line_at};
 ghost use Rattle.print_search.specs.Text.{reason_text};
 
-use crate::named::{in_kept, is_named_next, next_of, places_of};
+use crate::named::{in_kept, is_named_next, next_of, shown_of};
 use crate::sentence::{push_line_of, push_sentence};
 use history_core::{LogAnswer, Op, Reason, Search, Thinned};
 use itoa::Buffer;
@@ -74,13 +74,66 @@ fn unlawful_text(
 ) -> Result<Vec<u8>, AllocError>
     ensures { IfOk result (λ text. text.items ≡ unlawful_text (text_in log.now) thinned.now most reason) }
 {
-    let ops = thinned.history.ops.as_slice();
-    let places = thinned.places.as_slice();
     let mut text = reason_text(alloc, reason)?;
-    let named = places_of(alloc, in_kept(places, reason))?;
-    push_shown(alloc, &mut text, log, ops, places, named.as_slice())?;
-    push_sentence(&mut text, thinned, most, reason)?;
+    push_opening(alloc, &mut text, log, is_of_opening(reason))?;
+    push_shown(alloc, &mut text, log, thinned, reason)?;
+    push_sentence(alloc, &mut text, thinned, most, reason)?;
     Ok(text)
+}
+
+/// Whether a reason speaks of the opening.
+const fn is_of_opening(reason: Reason) -> bool
+    ensures { result ≡ is_of_opening reason }
+{
+    matches!(reason, Reason::Unwritten { .. } | Reason::Stale { .. })
+}
+
+fn push_opening(
+    alloc: Global,
+    text: &mut Vec<u8>,
+    log: &PackedText,
+    shown: bool,
+) -> Result<(), AllocError>
+    ensures { OnOk result (text.new.items ≡ text.old.items ++ opening_text shown (text_in log.now)) }
+{
+    if shown {
+        push_head(alloc, text, log)?;
+    }
+    Ok(())
+}
+
+/// The header of a log.
+fn push_head(alloc: Global, text: &mut Vec<u8>, log: &PackedText) -> Result<(), AllocError>
+    ensures { OnOk result (text.new.items ≡ text.old.items ++ head_text (lines_of (text_in log.now))) }
+{
+    push_first(alloc, text, log, log.codes.as_slice())
+}
+
+/// The first of the lines for which these codes stand.
+fn push_first(
+    alloc: Global,
+    text: &mut Vec<u8>,
+    log: &PackedText,
+    codes: &[u8],
+) -> Result<(), AllocError>
+    ensures { OnOk result (text.new.items ≡ text.old.items
+        ++ head_text (map (told log.now.packed) (lines_of codes.now))) }
+{
+    if let Some((own, _)) = split_line(codes) {
+        let mut line = Vec::new(alloc);
+        log.tell(&mut line, own)?;
+        push_first_line(text, line.as_slice())?;
+    }
+    Ok(())
+}
+
+#[tactic(auto, using(std::proofs::Common::append_assoc))]
+fn push_first_line(text: &mut Vec<u8>, line: &[u8]) -> Result<(), AllocError>
+    ensures { OnOk result (text.new.items ≡ text.old.items ++ head_text (line.now ∷ [])) }
+{
+    text.extend_from_slice(b"line 1: ")?;
+    text.extend_from_slice(line)?;
+    text.extend_from_slice(b"\n")
 }
 
 pub fn reason_text(alloc: Global, reason: Reason) -> Result<Vec<u8>, AllocError>
@@ -127,8 +180,24 @@ pub fn body_of(bytes: &[u8]) -> &[u8]
     }
 }
 
-/// The lines of a log of the operations that are named, of those that are kept.
+/// The lines of a log of the operations that are shown of a reason.
 fn push_shown(
+    alloc: Global,
+    text: &mut Vec<u8>,
+    log: &PackedText,
+    thinned: &Thinned,
+    reason: Reason,
+) -> Result<(), AllocError>
+    ensures { OnOk result (text.new.items ≡ text.old.items ++ shown_text (text_in log.now) thinned.now reason) }
+{
+    let ops = thinned.history.ops.as_slice();
+    let places = thinned.places.as_slice();
+    let named = shown_of(alloc, ops, in_kept(places, reason))?;
+    push_body(alloc, text, log, ops, places, named.as_slice())
+}
+
+/// The lines of a log of the operations that are named, of those that are kept.
+fn push_body(
     alloc: Global,
     text: &mut Vec<u8>,
     log: &PackedText,

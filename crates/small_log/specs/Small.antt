@@ -1,5 +1,5 @@
--- A small log, made of a larger one that has no lawful order: of the kept operations those that the reason names, with
--- the writes of their records. It is printed as a document of kind `log` with the lines on which they stand. There the
+-- A small log, made of a larger one that has no lawful order: of the kept operations those that are shown of the reason,
+-- with the writes of their records. It is printed as a document of kind `log` with the lines on which they stand. There the
 -- record that was written on line n is [n,n,n], and the opening [0,0,0] (this project's own).
 use Rattle.std.specs.Prelude.{ℕ, ◌++◌, ◌==◌, zero, suc, List, [], ◌∷◌, codes, length, map, if◌then◌else◌, Bool, ◌&&◌}
 use Rattle.std.specs.Prelude.{slice_get, unwrap_or, option_map, Option, None}
@@ -16,7 +16,7 @@ use Rattle.print_reasons.specs.Named.{is_item}
 use Rattle.history_core.specs.declared.thinned.LogAnswer.{LogAnswer}
 use Rattle.history_core.specs.declared.thinned.LogAnswer.TheVariants.{Lawful, Unlawful}
 use Rattle.history_core.specs.declared.thinned.Thinned.{Thinned}
-use Rattle.print_reasons.specs.Named.{in_kept, is_named, places_of}
+use Rattle.print_reasons.specs.Named.{in_kept, is_named, shown_of}
 use Rattle.print_reasons.specs.Sentences.{number_text}
 use Rattle.text_lines.specs.Places.{line_at}
 
@@ -33,10 +33,13 @@ abbrev pub named_of : List (Op ℕ) → List ℕ → ℕ → List (Op ℕ)
 named_of ops named zero = []
 named_of ops named (suc n) = named_of ops named n ++ one_named ops named n
 
+-- the kept operations that are shown of a reason
+abbrev pub shown_in : Thinned → Reason → List ℕ
+shown_in thinned reason = shown_of thinned.history.ops (in_kept thinned.places reason)
+
 -- the operations of the small log
 abbrev pub small_ops : Thinned → Reason → List (Op ℕ)
-small_ops thinned reason =
-    named_of thinned.history.ops (places_of (in_kept thinned.places reason)) (length thinned.history.ops)
+small_ops thinned reason = named_of thinned.history.ops (shown_in thinned reason) (length thinned.history.ops)
 
 -- the line of the operation at this place, if it is named
 abbrev pub one_line : List (Op ℕ) → List ℕ → List ℕ → ℕ → List ℕ
@@ -49,8 +52,7 @@ lines_of ops named places (suc n) = lines_of ops named places n ++ one_line ops 
 -- the lines on which they stand in the larger log
 abbrev pub small_lines : Thinned → Reason → List ℕ
 small_lines thinned reason =
-    lines_of thinned.history.ops (places_of (in_kept thinned.places reason)) thinned.places
-    (length thinned.history.ops)
+    lines_of thinned.history.ops (shown_in thinned reason) thinned.places (length thinned.history.ops)
 
 abbrev pub writes : ℕ → Op ℕ → Bool
 writes item o = is_write o.kind && is_item item o.item

@@ -11,7 +11,7 @@ ghost use Rattle.small_log.specs.Small.{small_lines, small_ops, small_text, task
 
 use crate::told::told_ops;
 use history_core::{Kind, LogAnswer, Op, Reason, Thinned};
-use print_reasons::{in_kept, is_named, places_of, push_u64, push_words};
+use print_reasons::{in_kept, is_named, push_u64, push_words, shown_of};
 use std::alloc::{AllocError, Global};
 use text_lines::line_of;
 
@@ -33,12 +33,13 @@ pub fn small_text(
     }
 }
 
-/// The operations that a reason names, with the writes of their records.
+/// The operations that are shown of a reason, with the writes of their records.
 fn small_ops(alloc: Global, thinned: &Thinned, reason: Reason) -> Result<Vec<Op<usize>>, AllocError>
     ensures { IfOk result (λ ops. ops.items ≡ small_ops thinned.now reason) }
 {
-    let named = places_of(alloc, in_kept(thinned.places.as_slice(), reason))?;
-    named_of(alloc, thinned.history.ops.as_slice(), named.as_slice())
+    let ops = thinned.history.ops.as_slice();
+    let shown = shown_of(alloc, ops, in_kept(thinned.places.as_slice(), reason))?;
+    named_of(alloc, ops, shown.as_slice())
 }
 
 fn named_of(alloc: Global, ops: &[Op<usize>], named: &[usize]) -> Result<Vec<Op<usize>>, AllocError>
@@ -78,14 +79,10 @@ pub(crate) fn push_one(found: &mut Vec<Op<usize>>, op: Option<Op<usize>>) -> Res
 fn small_lines(alloc: Global, thinned: &Thinned, reason: Reason) -> Result<Vec<usize>, AllocError>
     ensures { IfOk result (λ lines. lines.items ≡ small_lines thinned.now reason) }
 {
+    let ops = thinned.history.ops.as_slice();
     let places = thinned.places.as_slice();
-    let named = places_of(alloc, in_kept(places, reason))?;
-    lines_of(
-        alloc,
-        thinned.history.ops.as_slice(),
-        named.as_slice(),
-        places,
-    )
+    let shown = shown_of(alloc, ops, in_kept(places, reason))?;
+    lines_of(alloc, ops, shown.as_slice(), places)
 }
 
 fn lines_of(

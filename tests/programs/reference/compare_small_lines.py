@@ -97,7 +97,7 @@ def is_small(data, text, rule, reasons):
     """Whether the text is the small log of one of these reasons of the rule, and its own first rule is the same."""
     made = json.loads(text)
     ops = [{**each, "record": tuple(each["record"])} for each in made["ops"]]
-    return text in {small_lines.small(data, lines) for lines in reasons} and searches.search((0, 0, 0), made["limit"], ops)[0] == rule
+    return text in {small_lines.small(data, rule, lines) for lines in reasons} and searches.search((0, 0, 0), made["limit"], ops)[0] == rule
 
 
 def says_little(wanted):

@@ -6,6 +6,8 @@ import documents
 import searches
 
 MOST_NUMBERS = 64
+# So many of the writes are told that an operation could see.
+MOST_SEEN = 8
 
 
 # What is told behind some refusals of a line: what to do.
@@ -97,7 +99,8 @@ def told(data, reason):
     opening, limit, ops, ended = read(data)
     lines = [int(word) for word in reason[1:]]
     texts, key = data.decode().split("\n"), ops[lines[0] - 2]["key"]
-    shows = "".join(f"line {line}: {texts[line - 1]}\n" for line in named_by(lines, ops))
+    head = [1] if reason[0] in ("unwritten", "stale") else []
+    shows = "".join(f"line {line}: {texts[line - 1]}\n" for line in head + shown_of(reason[0], lines, ops))
     which = key_line(key) + LATER if len(keys_of(ops)) > 1 else ""
     return f"unlawful {' '.join(reason)}\n" + shows + sentence(reason[0], lines, opening, limit, ops) + which + counts(opening, ops, ended)
 
@@ -109,6 +112,25 @@ def named_by(lines, ops):
             if each["line"] in lines or each["kind"] == "write" and each["record"] in shown]
 
 
+def ended_before(one, other):
+    return one["end"] is not None and one["end"] < other["begin"]
+
+
+def could_see(line, ops):
+    """The lines of the writes that the operation on a line could see: which began by its end, and behind which no other one lies that ended
+    before it began."""
+    it = ops[line - 2]
+    writes = [each for each in of_key(ops, it["key"]) if each["kind"] == "write"]
+    return [one["line"] for one in writes if one["begin"] <= it["end"]
+            and not any(ended_before(one, other) and ended_before(other, it) for other in writes)]
+
+
+def shown_of(rule, lines, ops):
+    """The lines that are shown of a reason: where nobody wrote a record, also those of the first writes that the operation could see."""
+    beside = could_see(lines[0], ops)[:MOST_SEEN] if rule == "unwritten" else []
+    return named_by([*lines, *beside], ops)
+
+
 def most_before(opening, ops):
     """How many writes can stand before the first refused write, in an order that is lawful but for the limit."""
     firsts = []
@@ -118,11 +140,11 @@ def most_before(opening, ops):
     return max(firsts)
 
 
-def small(data, lines):
-    """What `--small` prints of a log that has this reason: a document of kind `log` of the lines that it names. A record has the number of
+def small(data, rule, lines):
+    """What `--small` prints of a log that has this reason: a document of kind `log` of the lines that are shown of it. A record has the number of
     the line that wrote it, 0 if it is the opening, and else that of the operation's own line; tasks have those of their first operations."""
     opening, limit, ops, _ = read(data)
-    named = named_by(lines, ops)
+    named = shown_of(rule, lines, ops)
     shown = [ops[line - 2] for line in named]
     numbers = {each["record"]: each["line"] for each in shown if each["kind"] == "write"} | {opening: 0}
     tasks = [each["who"] for each in shown]
@@ -163,11 +185,15 @@ def sentence(rule, lines, opening, limit, ops):
 
     first = lines[0]
     if rule == "unwritten":
-        return f"Line {first} gave a record that is neither the opening nor written.\n"
+        seen = could_see(first, ops)
+        rest = " and more" if seen[MOST_SEEN:] else ""
+        told_lines = "".join(f" {line}" for line in seen[:MOST_SEEN]) or " none"
+        return (f"Line {first} gave a record that is neither the opening nor written.\n"
+                f"Lines of the writes that it could see:{told_lines}{rest}.\n")
     if rule == "early":
         return f"Line {first} gave a record before the write of it began: {apart(*lines)}.\n"
     if rule == "stale":
-        return f"Line {lines[1]} gave the opening behind an operation of another record: {apart(*lines)}.\n"
+        return f"Line {lines[1]} gave an old record, the opening: {apart(*lines)}.\n"
     if rule == "crossed":
         one = f"Lines {first} and {lines[3]} are of one record"
         if lines[1] == lines[2]:

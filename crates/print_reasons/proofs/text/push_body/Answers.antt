@@ -5,7 +5,7 @@ use Rattle.text_lines.specs.Splits.{lines_of}
 use Rattle.packed_text.specs.Words.{text_in, told}
 use Rattle.print_reasons.specs.Text.{body_of, named_text}
 use Rattle.print_reasons.proofs.BodyLemmas.{told_body}
-use Rattle.print_reasons.proofs.text.push_shown.Goals as goal
+use Rattle.print_reasons.proofs.text.push_body.Goals as goal
 
 pub returns : goal.returns
 returns c =
