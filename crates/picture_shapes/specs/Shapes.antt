@@ -1,6 +1,6 @@
 -- The text of each shape of a picture, in SVG 1.1 (W3C, Scalable Vector Graphics). Which shapes
 -- there are is this project's own.
-use Rattle.std.specs.Prelude.{ℕ, ◌+◌, ◌-◌, ◌*◌, ◌/◌, ◌%◌, ◌++◌, max, List, [], codes, Bool, true}
+use Rattle.std.specs.Prelude.{ℕ, ◌+◌, ◌-◌, ◌*◌, ◌/◌, ◌%◌, ◌++◌, ◌&&◌, max, List, [], codes, Bool, true}
 use Rattle.std.specs.Prelude.{false, Option, None, Some, is_some}
 use Rattle.std.specs.Prelude.{nat_eq, nat_lt, if◌then◌else◌}
 use Rattle.std.specs.Fmt.{decimal}
@@ -80,12 +80,22 @@ kind_words x y kind stamp line =
 unfoldable pub item_words : ℕ → ℕ → Option Band → List ℕ
 item_words x y item = words_head x y ++ item_text item ++ words_end
 
+-- a record that is the number of its operation's line, as in a small log that of a write
+abbrev pub is_own : Option ℕ → Option Band → Bool
+is_own None item = false
+is_own (Some line) None = false
+is_own (Some line) (Some b) = (nat_eq b.lo line && nat_eq b.now line) && nat_eq b.hi line
+
+-- the record, unless the line says it
+abbrev pub told_words : ℕ → ℕ → Option ℕ → Option Band → List ℕ
+told_words x y line item = if is_own line item then [] else item_words x y item
+
 -- an operation: its interval, its kind with the stamp and the line that it has, and its record
 unfoldable pub op_shapes : Scale → Option Stamp → Option ℕ → Op Band → List ℕ
 op_shapes s stamp line op =
     bar_text (bar_of (class_of op.kind) s op.who op.starts op.ends)
-    ++ kind_words (x_of s op.starts) (y_of op.who + 14) op.kind stamp line ++ item_words (x_of s op.starts)
-    (y_of op.who + 28) op.item
+    ++ kind_words (x_of s op.starts) (y_of op.who + 14) op.kind stamp line ++ told_words (x_of s op.starts)
+    (y_of op.who + 28) line op.item
 
 -- ---- points and joins
 

@@ -11,8 +11,8 @@ ghost use Rattle.picture_shapes.specs.Shapes.{op_shapes};
 use history_core::{Band, Kind, Op};
 use matrix_core::Stamp;
 use picture_shapes::{
-    Bar, Join, Lanes, ROW_BAR, Scale, Spot, Visit, bar_of, class_of, put_bar, put_item_words,
-    put_join, put_kind_words, put_point, row_y, y_of,
+    Bar, Join, Lanes, ROW_BAR, Scale, Spot, Visit, bar_of, class_of, put_bar, put_join,
+    put_kind_words, put_point, put_told_words, row_y, y_of,
 };
 use print_report::Line;
 use std::alloc::AllocError;
@@ -56,7 +56,7 @@ fn push_op(
     put_kind_words(words, x, y + 14, op.kind, stamp, line);
     text.extend_from_slice(words.as_bytes())?;
     words.clear();
-    put_item_words(words, x, y + 28, op.item);
+    put_told_words(words, x, y + 28, line, op.item);
     text.extend_from_slice(words.as_bytes())
 }
 

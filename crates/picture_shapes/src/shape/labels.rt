@@ -1,8 +1,9 @@
 //! The words of an operation: its kind, its stamp, its line and its record.
 
-ghost use Rattle.std.specs.Prelude.{◌≡◌, ◌+◌, ◌≤◌, ◌++◌, length};
+ghost use Rattle.std.specs.Prelude.{◌≡◌, ◌+◌, ◌≤◌, ◌++◌, Some, length};
 ghost use Rattle.print_report.specs.Lines.{kind_text};
-ghost use Rattle.picture_shapes.specs.Shapes.{item_words, kind_words, line_words, stamp_words, words_head};
+ghost use Rattle.picture_shapes.specs.Shapes.{is_own, item_words, kind_words, line_words, stamp_words, told_words};
+ghost use Rattle.picture_shapes.specs.Shapes.{words_head};
 
 use history_core::{Band, Kind};
 use matrix_core::Stamp;
@@ -75,8 +76,34 @@ fn put_kind(line: &mut Line, kind: Kind)
     }
 }
 
+/// The record, unless the line says it.
+pub fn put_told_words(text: &mut Line, x: u64, y: u64, line: Option<usize>, item: Option<Band>)
+    requires { length text.old ≡ 0 }
+    ensures { text.new ≡ told_words x y line item ++ text.old }
+{
+    if !is_own(line, item) {
+        put_item_words(text, x, y, item);
+    }
+}
+
+/// Whether a record is the number of this line.
+fn is_own(line: Option<usize>, item: Option<Band>) -> bool
+    ensures { result ≡ is_own line item }
+{
+    match (line, item) {
+        (Some(line), Some(band)) => is_number(band, line as u64),
+        _ => false,
+    }
+}
+
+const fn is_number(band: Band, number: u64) -> bool
+    ensures { result ≡ is_own (Some number) (Some band) }
+{
+    band.lo == number && band.now == number && band.hi == number
+}
+
 #[tactic(auto, unfolding(crate::specs::Shapes::item_words), using(std::proofs::Common::append_assoc))]
-pub fn put_item_words(line: &mut Line, x: u64, y: u64, item: Option<Band>)
+fn put_item_words(line: &mut Line, x: u64, y: u64, item: Option<Band>)
     requires { length line.old ≡ 0 }
     ensures { line.new ≡ item_words x y item ++ line.old }
 {
