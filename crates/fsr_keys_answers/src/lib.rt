@@ -1,5 +1,5 @@
-//! What `fsr` answers to a log in lines of any number of keys whose records are written once: the verdict key by key, or
-//! the small log that shows the reason.
+//! What `fsr` answers to a log in lines of any number of keys whose records are written once: the verdict key by key,
+//! or the small log that shows the reason.
 #![tactic(auto)]
 
 mod by_keys;

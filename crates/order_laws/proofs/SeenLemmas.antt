@@ -90,7 +90,8 @@ module _ (moment : ℕ) where
   IsFrom last ops found = (found ≡ last)
       ⊎ ((q : ℕ) × (w : Op ℕ) × (slice_get ops q ≡ Some w) × (had_ended moment w ≡ true) × (found ≡ w.starts))
 
-  step_from : (last : ℕ) (o : Op ℕ) → (later_begin moment last o ≡ last) ⊎ ((had_ended moment o ≡ true) × (later_begin moment last o ≡ o.starts))
+  step_from : (last : ℕ) (o : Op ℕ) → (later_begin moment last o ≡ last)
+      ⊎ ((had_ended moment o ≡ true) × (later_begin moment last o ≡ o.starts))
   step_from last o = by (had_ended moment o) (nat_lt last o.starts) refl
     where
       by : (a b : Bool) → had_ended moment o ≡ a → ((if a && b then o.starts else last) ≡ last)

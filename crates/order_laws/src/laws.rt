@@ -100,8 +100,8 @@ pub fn document_as_any()
         IsLogAnswer bytes reply → IsOrderAnswer show bytes reply }
 {}
 
-/// The writes that an operation could see, as the answer to a log shows them, are those that a read of a regular register
-/// may see.
+/// The writes that an operation could see, as the answer to a log shows them, are those that a read of a regular
+/// register may see.
 pub fn seen_are_regular()
     ensures each { (ops : List (Op ℕ)) (k end : ℕ) (read : Op ℕ) → slice_get ops k ≡ Some read → read.ends ≡ Some end →
         (i p : ℕ) → slice_get (could_see ops k) i ≡ Some p →

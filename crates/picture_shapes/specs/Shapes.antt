@@ -80,15 +80,26 @@ kind_words x y kind stamp line =
 unfoldable pub item_words : ℕ → ℕ → Option Band → List ℕ
 item_words x y item = words_head x y ++ item_text item ++ words_end
 
--- a record that is the number of its operation's line, as in a small log that of a write
-abbrev pub is_own : Option ℕ → Option Band → Bool
-is_own None item = false
-is_own (Some line) None = false
-is_own (Some line) (Some b) = (nat_eq b.lo line && nat_eq b.now line) && nat_eq b.hi line
+-- one number three times
+abbrev pub is_of_one : Band → Bool
+is_of_one b = nat_eq b.now b.lo && nat_eq b.hi b.lo
 
--- the record, unless the line says it
+abbrev pub source_text : ℕ → List ℕ
+source_text source = if nat_eq source 0 then codes "the opening" else codes "of " ++ decimal source
+
+unfoldable pub source_words : ℕ → ℕ → ℕ → List ℕ
+source_words x y source = words_head x y ++ source_text source ++ words_end
+
+-- a record that is told by the line of its write: nothing on that line itself
+abbrev pub lined_words : ℕ → ℕ → ℕ → Band → List ℕ
+lined_words x y line b =
+    if is_of_one b then (if nat_eq b.lo line then [] else source_words x y b.lo) else item_words x y (Some b)
+
+-- the record of an operation that may have a line
 abbrev pub told_words : ℕ → ℕ → Option ℕ → Option Band → List ℕ
-told_words x y line item = if is_own line item then [] else item_words x y item
+told_words x y None item = item_words x y item
+told_words x y (Some line) None = item_words x y None
+told_words x y (Some line) (Some b) = lined_words x y line b
 
 -- an operation: its interval, its kind with the stamp and the line that it has, and its record
 unfoldable pub op_shapes : Scale → Option Stamp → Option ℕ → Op Band → List ℕ

@@ -2,7 +2,8 @@
 ghost use Rattle.std.specs.Prelude.{◌≡◌, ◌++◌, OnOk, codes};
 ghost use Rattle.print_reasons.specs.Sentences.{apart_text, begin_at, beside_text, crossed_text, early_text, end_at};
 ghost use Rattle.print_reasons.specs.Sentences.{limit_text, number_text, op_at, others_text, records_text, rest_text};
-ghost use Rattle.print_reasons.specs.Sentences.{place_at, seen_line, seen_lines, sentence_text, stale_text, unwritten_text};
+ghost use Rattle.print_reasons.specs.Sentences.{place_at, seen_line, seen_lines, sentence_text, stale_text};
+ghost use Rattle.print_reasons.specs.Sentences.{unwritten_text};
 ghost use Rattle.text_lines.specs.Places.{line_at};
 
 use crate::named::kept_at;

@@ -1,6 +1,6 @@
--- A small log, made of a larger one that has no lawful order: of the kept operations those that are shown of the reason,
--- with the writes of their records. It is printed as a document of kind `log` with the lines on which they stand. There the
--- record that was written on line n is [n,n,n], and the opening [0,0,0] (this project's own).
+-- A small log, made of a larger one that has no lawful order: of the kept operations those that are shown of the
+-- reason, with the writes of their records. It is printed as a document of kind `log` with the lines on which they
+-- stand. There the record that was written on line n is [n,n,n], and the opening [0,0,0] (this project's own).
 use Rattle.std.specs.Prelude.{ℕ, ◌++◌, ◌==◌, zero, suc, List, [], ◌∷◌, codes, length, map, if◌then◌else◌, Bool, ◌&&◌}
 use Rattle.std.specs.Prelude.{slice_get, unwrap_or, option_map, Option, None}
 use Rattle.std.specs.Prelude.{Some}

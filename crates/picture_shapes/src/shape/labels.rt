@@ -1,9 +1,9 @@
 //! The words of an operation: its kind, its stamp, its line and its record.
 
-ghost use Rattle.std.specs.Prelude.{◌≡◌, ◌+◌, ◌≤◌, ◌++◌, Some, length};
+ghost use Rattle.std.specs.Prelude.{◌≡◌, ◌+◌, ◌≤◌, ◌++◌, length};
 ghost use Rattle.print_report.specs.Lines.{kind_text};
-ghost use Rattle.picture_shapes.specs.Shapes.{is_own, item_words, kind_words, line_words, stamp_words, told_words};
-ghost use Rattle.picture_shapes.specs.Shapes.{words_head};
+ghost use Rattle.picture_shapes.specs.Shapes.{is_of_one, item_words, kind_words, line_words, lined_words, source_text};
+ghost use Rattle.picture_shapes.specs.Shapes.{source_words, stamp_words, told_words, words_head};
 
 use history_core::{Band, Kind};
 use matrix_core::Stamp;
@@ -76,30 +76,57 @@ fn put_kind(line: &mut Line, kind: Kind)
     }
 }
 
-/// The record, unless the line says it.
+/// The record of an operation that may have a line.
 pub fn put_told_words(text: &mut Line, x: u64, y: u64, line: Option<usize>, item: Option<Band>)
     requires { length text.old ≡ 0 }
     ensures { text.new ≡ told_words x y line item ++ text.old }
 {
-    if !is_own(line, item) {
-        put_item_words(text, x, y, item);
-    }
-}
-
-/// Whether a record is the number of this line.
-fn is_own(line: Option<usize>, item: Option<Band>) -> bool
-    ensures { result ≡ is_own line item }
-{
     match (line, item) {
-        (Some(line), Some(band)) => is_number(band, line as u64),
-        _ => false,
+        (Some(line), Some(band)) => put_lined_words(text, x, y, line as u64, band),
+        _ => put_item_words(text, x, y, item),
     }
 }
 
-const fn is_number(band: Band, number: u64) -> bool
-    ensures { result ≡ is_own (Some number) (Some band) }
+/// A record that is told by the line of its write, but on that line itself.
+fn put_lined_words(text: &mut Line, x: u64, y: u64, line: u64, band: Band)
+    requires { length text.old ≡ 0 }
+    ensures { text.new ≡ lined_words x y line band ++ text.old }
 {
-    band.lo == number && band.now == number && band.hi == number
+    if !is_of_one(band) {
+        put_item_words(text, x, y, Some(band));
+    } else if band.lo != line {
+        put_source_words(text, x, y, band.lo);
+    }
+}
+
+const fn is_of_one(band: Band) -> bool
+    ensures { result ≡ is_of_one band }
+{
+    band.now == band.lo && band.hi == band.lo
+}
+
+#[tactic(auto, unfolding(crate::specs::Shapes::source_words), using(std::proofs::Common::append_assoc))]
+fn put_source_words(text: &mut Line, x: u64, y: u64, source: u64)
+    requires { length text.old ≡ 0 }
+    ensures { text.new ≡ source_words x y source ++ text.old }
+{
+    text.put(b"</text>\n");
+    put_source(text, source);
+    put_words_head(text, x, y);
+}
+
+#[tactic(auto, using(std::proofs::Common::append_assoc))]
+fn put_source(text: &mut Line, source: u64)
+    requires { length text.old + 30 ≤ 256 }
+    ensures text { text.new ≡ source_text source ++ text.old }
+    ensures len { length text.new ≤ length text.old + 30 }
+{
+    if source == 0 {
+        text.put(b"the opening");
+    } else {
+        text.put_number(source);
+        text.put(b"of ");
+    }
 }
 
 #[tactic(auto, unfolding(crate::specs::Shapes::item_words), using(std::proofs::Common::append_assoc))]
