@@ -5,7 +5,7 @@ ghost use Rattle.exchanges_log.specs.ExchangeFaults.{IsExchangesBodyFault, IsExc
 ghost use Rattle.exchanges_log.specs.ExchangeLogs.{first_key, IsExchangesLog, key_said};
 ghost use Rattle.exchanges_log.specs.inner.ExchangeReadings.{AreExchangesFinished, AreExchangesRead, IsBodyRead};
 ghost use Rattle.exchanges_log.specs.inner.ExchangeReadings.{rule_of};
-ghost use Rattle.packed_text.specs.Words.{text_in, told};
+ghost use Rattle.text_lines.specs.Words.{text_in, told};
 ghost use Rattle.read_exchange.specs.Exchanges.{entry_of};
 ghost use Rattle.text_lines.specs.Splits.{lines_of};
 
@@ -13,12 +13,12 @@ use crate::counts::{uncertain_in, unfinished_in};
 use crate::exchanges_log::ExchangesLog;
 use crate::reader::Reader;
 use lines_log::{is_end, refused_at, text_of};
-use packed_text::PackedText;
 use program_runs::Fault;
 use read_document::DocError;
 use read_exchange::{ExchangeLine, ExchangeOp, read_exchange};
 use read_line::read_header;
 use std::alloc::{AllocError, Global};
+use text_lines::PackedText;
 
 /// The line of the header.
 const HEADER: usize = 1;

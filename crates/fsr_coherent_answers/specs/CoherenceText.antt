@@ -8,7 +8,7 @@ use Rattle.history_coherence.specs.declared.coherence.Incoherence.TheVariants.{U
 use Rattle.history_coherence.specs.declared.coherence.Link.{Link}
 use Rattle.print_reasons.specs.Counts.{count_text, end_text, little_text}
 use Rattle.print_reasons.specs.Sentences.{number_text, unwritten_text}
-use Rattle.print_reasons.specs.Text.{write_lines}
+use Rattle.print_reasons.specs.Text.{place_lines}
 use Rattle.print_evidence.specs.Together.{shown_lines}
 use Rattle.program_runs.specs.declared.fault.Answer.{Answer}
 use Rattle.program_streams.specs.Exits.{status_of as status_at}
@@ -32,7 +32,7 @@ places_in (Circle links) = flat_map places_of_link links
 
 -- the lines of these places
 abbrev pub named_text : List ℕ → List ℕ
-named_text places = write_lines places ++ codes "\n"
+named_text places = place_lines places ++ codes "\n"
 
 abbrev pub ahead_text : ℕ → ℕ → List ℕ
 ahead_text read write =

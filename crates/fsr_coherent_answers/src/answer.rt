@@ -4,7 +4,7 @@ ghost use Rattle.fsr_coherent_answers.specs.CoherenceAnswers.{IsCoherenceAnswer,
 ghost use Rattle.fsr_coherent_answers.specs.CoherenceText.{printed, status_of};
 ghost use Rattle.history_coherence.specs.Answers.{AreWrittenOnce, IsCoherence};
 ghost use Rattle.lines_log.specs.Faults.{IsLinesFault};
-ghost use Rattle.packed_text.specs.Words.{text_in};
+ghost use Rattle.text_lines.specs.Words.{text_in};
 ghost use Rattle.program_runs.specs.Answers.{GivesReply, HasAnswerStatus};
 ghost use Rattle.whole_log.specs.WholeLogs.{IsWholeLog};
 
@@ -12,12 +12,12 @@ use crate::text::coherence_text;
 use history_coherence::{Coherence, check_written, search_coherent};
 use history_core::Items;
 use lines_log::{read_lines, refused_at};
-use packed_text::PackedText;
 use program_runs::{Answer, Fault};
 use program_streams::Exit;
 use read_document::{DocError, Key};
 use read_line::has_repeats;
 use std::alloc::{AllocError, Global};
+use text_lines::PackedText;
 use whole_log::{Unread, WholeLog, read_whole};
 
 /// The line of the header.

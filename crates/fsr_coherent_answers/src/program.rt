@@ -8,10 +8,10 @@ ghost use Rattle.program_streams.specs.Stream.{HasRoom};
 
 use crate::answer::order_coherent;
 use fsr_order_input::{LogCommand, LogInput, run_log};
-use packed_text::PackedText;
 use program_runs::{Answer, FSR, Fault};
 use program_streams::{Sink, Source};
 use std::alloc::Global;
+use text_lines::PackedText;
 
 /// The command `order --coherent`.
 #[derive(Clone, Copy)]

@@ -4,8 +4,8 @@ ghost use Rattle.fsr_coherent_answers.specs.CoherenceText.{ahead_text, circle_te
 ghost use Rattle.fsr_coherent_answers.specs.CoherenceText.{found_text, incoherent_text, name_of, named_text};
 ghost use Rattle.fsr_coherent_answers.specs.CoherenceText.{sentence_text};
 ghost use Rattle.print_reasons.specs.Sentences.{number_text, unwritten_text};
-ghost use Rattle.print_reasons.specs.Text.{body_of, line_text, write_lines};
-ghost use Rattle.packed_text.specs.Words.{text_in, told};
+ghost use Rattle.print_reasons.specs.Text.{body_of, line_text};
+ghost use Rattle.text_lines.specs.Words.{text_in, told};
 ghost use Rattle.print_evidence.specs.Lost.{line_in};
 ghost use Rattle.print_evidence.specs.Together.{shown_lines};
 ghost use Rattle.text_lines.specs.Places.{line_at};
@@ -13,10 +13,12 @@ ghost use Rattle.text_lines.specs.Places.{line_at};
 use crate::lines::{body_lines, line_in};
 use crate::places::places_in;
 use history_coherence::{Coherence, Incoherence};
-use packed_text::PackedText;
-use print_reasons::{push_count, push_end, push_little, push_u64, push_words};
+use print_reasons::{
+    push_count, push_end, push_line, push_line_of, push_little, push_place_lines, push_unwritten,
+    push_words,
+};
 use std::alloc::{AllocError, Global};
-use text_lines::line_of;
+use text_lines::PackedText;
 use whole_log::WholeLog;
 
 /// What was found, and the counts.
@@ -90,18 +92,8 @@ fn name_of(reason: &Incoherence) -> &'static str
 fn push_named(text: &mut Vec<u8>, places: &[usize]) -> Result<(), AllocError>
     ensures { OnOk result (text.new.items ≡ text.old.items ++ named_text places.now) }
 {
-    push_numbers(text, places)?;
+    push_place_lines(text, places)?;
     push_words(text, "\n")
-}
-
-/// The lines of these places, each behind a blank.
-fn push_numbers(text: &mut Vec<u8>, places: &[usize]) -> Result<(), AllocError>
-    ensures { OnOk result (text.new.items ≡ text.old.items ++ write_lines places.now) }
-{
-    for place in places {
-        push_line_of(text, " ", *place)?;
-    }
-    Ok(())
 }
 
 /// The lines as they stand in the log, each behind its number. These are the codes of all of them.
@@ -136,23 +128,6 @@ fn push_shown_line(
     push_line(text, place, line.as_slice())
 }
 
-#[tactic(auto, using(std::proofs::Common::append_assoc))]
-fn push_line(text: &mut Vec<u8>, place: usize, line: &[u8]) -> Result<(), AllocError>
-    ensures { OnOk result (text.new.items ≡ text.old.items ++ line_text place line.now) }
-{
-    push_line_of(text, "line ", place)?;
-    push_words(text, ": ")?;
-    text.extend_from_slice(line)?;
-    push_words(text, "\n")
-}
-
-fn push_line_of(text: &mut Vec<u8>, words: &str, place: usize) -> Result<(), AllocError>
-    ensures { OnOk result (text.new.items ≡ text.old.items ++ number_text words.now (line_at place)) }
-{
-    let line = line_of(place)?;
-    push_u64(text, words, line as u64)
-}
-
 fn push_sentence(text: &mut Vec<u8>, reason: &Incoherence) -> Result<(), AllocError>
     ensures { OnOk result (text.new.items ≡ text.old.items ++ sentence_text reason.now) }
 {
@@ -174,16 +149,6 @@ fn push_circle(text: &mut Vec<u8>) -> Result<(), AllocError>
     push_words(
         text,
         "That goes in a circle; the opening stands before all others.\n",
-    )
-}
-
-fn push_unwritten(text: &mut Vec<u8>, read: usize) -> Result<(), AllocError>
-    ensures { OnOk result (text.new.items ≡ text.old.items ++ unwritten_text read) }
-{
-    push_line_of(text, "Line ", read)?;
-    push_words(
-        text,
-        " gave a record that is neither the opening nor written.\n",
     )
 }
 

@@ -2,15 +2,15 @@
 ghost use Rattle.std.specs.Prelude.{◌≡◌};
 ghost use Rattle.program_runs.specs.Answers.{GivesReply};
 ghost use Rattle.fsr_keys_answers.specs.ByKeys.{IsAnswerByKeys, IsAnswerIfSmall, is_other_key};
-ghost use Rattle.packed_text.specs.Words.{text_in};
+ghost use Rattle.text_lines.specs.Words.{text_in};
 
 use crate::keys_answer::order_keys;
 use crate::small_answer::order_small;
 use fsr_once_answers::order_lines;
-use packed_text::PackedText;
 use program_runs::{Answer, Fault, LinesFault, Show};
 use read_document::{DocError, Key};
 use std::alloc::Global;
+use text_lines::PackedText;
 
 /// The answer to the text of a log in lines whose records don't repeat. It is read as one of one key first.
 pub fn order_by_keys(alloc: Global, show: Show, packed: &PackedText) -> Result<Answer, Fault>

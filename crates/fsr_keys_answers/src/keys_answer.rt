@@ -5,7 +5,7 @@ ghost use Rattle.keys_log.specs.Keys.{IsKeysLog};
 ghost use Rattle.fsr_keys_answers.specs.KeysAnswers.{IsKeysAnswer, IsKeysVerdict, keys_exit, keys_status, printed};
 ghost use Rattle.fsr_keys_answers.specs.KeysAnswers.{shown};
 ghost use Rattle.print_keys.specs.declared.keys_verdict.KeysVerdict.{KeysVerdict};
-ghost use Rattle.packed_text.specs.Words.{text_in};
+ghost use Rattle.text_lines.specs.Words.{text_in};
 
 use crate::keys_small::small_keys;
 use crate::keys_verdict::judge_keys;
@@ -13,11 +13,11 @@ use fsr_once_answers::lawful_exit;
 use history_core::Items;
 use kept_lines::KeysLog;
 use keys_log::read_keys;
-use packed_text::PackedText;
 use print_keys::{KeysVerdict, added_up, keys_show_little, keys_text};
 use program_runs::{Answer, Fault, Show};
 use program_streams::Exit;
 use std::alloc::{AllocError, Global};
+use text_lines::PackedText;
 
 /// The answer of the command `order` to the bytes of a log in lines whose operations have several keys: whether each
 /// has a lawful order, or the first that has none, with what is asked for of it.

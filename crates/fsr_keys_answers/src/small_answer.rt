@@ -5,16 +5,16 @@ ghost use Rattle.history_core.specs.declared.history.Op.{Op};
 ghost use Rattle.history_thinning.specs.Answers.{IsThinnedAnswer, IsOfKept};
 ghost use Rattle.history_thinning.specs.Thinnings.{IsThinnedLog};
 ghost use Rattle.fsr_keys_answers.specs.SmallAnswers.{IsSmallAnswer, printed};
-ghost use Rattle.packed_text.specs.Words.{text_in};
+ghost use Rattle.text_lines.specs.Words.{text_in};
 
 use fsr_once_answers::{search_log, status_of};
 use history_core::{Items, LogAnswer};
 use kept_lines::LinesLog;
 use lines_log::read_lines;
-use packed_text::PackedText;
 use program_runs::{Answer, Fault};
 use small_log::small_text;
 use std::alloc::{AllocError, Global};
+use text_lines::PackedText;
 
 /// The answer of the command `order` to the bytes of a log in lines, of which a small log is asked for.
 pub fn order_small(alloc: Global, strict: bool, packed: &PackedText) -> Result<Answer, Fault>

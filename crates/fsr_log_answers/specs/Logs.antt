@@ -10,7 +10,7 @@ use Rattle.program_runs.specs.declared.fault.LinesFault.TheVariants.{Headless}
 use Rattle.history_core.specs.declared.band.Band.{Band}
 use Rattle.history_core.specs.declared.history.History.{History}
 use Rattle.read_log.specs.Logs.{IsLogFault, IsLogSearch}
-use Rattle.print_search.specs.Text.{search_text}
+use Rattle.fsr_log_answers.specs.Text.{search_text}
 use Rattle.read_log.specs.Log.{log_of}
 use Rattle.history_core.specs.declared.reason.Search.{Search}
 use Rattle.history_core.specs.declared.reason.Search.TheVariants.{Order, Unlawful}

@@ -4,6 +4,7 @@
 
 mod log_answer;
 mod program;
+mod text;
 
 pub use log_answer::order_document;
 pub use program::run;

@@ -4,8 +4,8 @@ ghost use Rattle.fsr_log_answers.specs.Logs.{AnswersOrder, fault_of, IsLogAnswer
 ghost use Rattle.read_document.specs.Refusals.{Gives as Reads};
 ghost use Rattle.read_log.specs.Log.{CanBeSearched, log_of};
 
+use crate::text::search_text;
 use history_core::{Band, History, Items, Search};
-use print_search::search_text;
 use program_runs::{Answer, Fault, LinesFault};
 use read_document::{DocError, read_value};
 use read_log::{log_document, search_log};

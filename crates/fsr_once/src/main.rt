@@ -14,12 +14,15 @@ fn main(rt: HostRuntime) -> ExitCode {
         Ok(words) => words,
         Err(status) => return ExitCode::from(status),
     };
-    let Some(show) = show_of(words.as_slice()).filter(|show| !show.small) else {
-        tell(
-            &mut faults,
-            "fsr_once: takes --order, --strict or --budget N, and the document on standard input\n",
-        );
-        return ExitCode::from(Exit::NoCommand.status());
+    let show = match show_of(words.as_slice()) {
+        Some(show) if !show.small => show,
+        _ => {
+            tell(
+                &mut faults,
+                "fsr_once: takes --order, --strict or --budget N, and the document on standard input\n",
+            );
+            return ExitCode::from(Exit::NoCommand.status());
+        }
     };
     let mut input = Over::new(rt.stdin());
     let mut out = Over::new(rt.stdout());

@@ -5,16 +5,16 @@ ghost use Rattle.history_thinning.specs.Answers.{IsThinnedAnswer, IsOfKept};
 ghost use Rattle.history_thinning.specs.Thinnings.{IsThinnedLog};
 ghost use Rattle.fsr_once_answers.specs.LinesAnswers.{IsLinesAnswer, exit_of, lawful_exit, printed, status_of};
 ghost use Rattle.thinned_search.specs.Limits.{IsCounted};
-ghost use Rattle.packed_text.specs.Words.{text_in};
+ghost use Rattle.text_lines.specs.Words.{text_in};
 
 use history_core::{Items, LogAnswer};
 use kept_lines::LinesLog;
 use lines_log::read_lines;
-use packed_text::PackedText;
 use print_reasons::{lines_text, shows_little};
 use program_runs::{Answer, Fault, Show};
 use program_streams::Exit;
 use std::alloc::{AllocError, Global};
+use text_lines::PackedText;
 use thinned_search::{counted, search_thinned};
 
 /// The answer of the command `order` to the bytes of a log in lines, with the writes in order if that is asked for.

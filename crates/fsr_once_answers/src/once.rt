@@ -4,16 +4,16 @@ ghost use Rattle.program_runs.specs.Answers.{GivesReply};
 ghost use Rattle.read_line.specs.Repeats.{has_repeats};
 ghost use Rattle.fsr_once_answers.specs.Once.{IsAnswerOnce, IsOnceInLines, IsOtherDocument, other_fault};
 ghost use Rattle.fsr_order_input.specs.Inputs.{input_text, IsByKind};
-ghost use Rattle.packed_text.specs.Words.{text_in};
+ghost use Rattle.text_lines.specs.Words.{text_in};
 
 use crate::answer::order_lines;
 use fsr_order_input::LogInput;
 use lines_log::refused_at;
-use packed_text::PackedText;
 use program_runs::{Answer, Fault, LinesFault, Show};
 use read_document::{DocError, Key};
 use read_line::{has_repeats, read_header};
 use std::alloc::Global;
+use text_lines::PackedText;
 
 /// The line of the header.
 const HEADER: usize = 1;

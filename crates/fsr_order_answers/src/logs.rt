@@ -3,16 +3,16 @@ ghost use Rattle.program_runs.specs.Answers.{GivesReply};
 ghost use Rattle.read_line.specs.Repeats.{has_repeats};
 ghost use Rattle.fsr_order_answers.specs.Order.{IsAnswerInLines, IsOrderAnswer};
 ghost use Rattle.fsr_order_input.specs.Inputs.{input_text, IsByKind};
-ghost use Rattle.packed_text.specs.Words.{text_in};
+ghost use Rattle.text_lines.specs.Words.{text_in};
 
 use fsr_keys_answers::order_by_keys;
 use fsr_log_answers::order_document;
 use fsr_order_input::{LogInput, log_input};
 use fsr_repeats_answers::order_exchanges;
-use packed_text::PackedText;
 use program_runs::{Answer, Fault, Show};
 use read_line::has_repeats;
 use std::alloc::Global;
+use text_lines::PackedText;
 
 /// The answer of the command `order` to the input: a lawful order of its log, or the reason why there is none. For a
 /// log in lines whose records repeat there is a budget, and for any other one in lines a choice of what is printed, and

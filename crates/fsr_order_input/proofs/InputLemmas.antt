@@ -3,8 +3,8 @@ use Rattle.std.proofs.Common.{◌≡◌, ◌⊎◌, inl, inr, ◌<◌, ◌≤◌
 use Rattle.std.proofs.Common.{◌∙◌, subst}
 use Rattle.std.proofs.KnownBytes.{Consumes-trans}
 use Rattle.std.specs.Io.KnownBytes.{Consumes, IsAtEnd}
-use Rattle.packed_text.specs.Words.{text_in}
-use Rattle.packed_text.specs.declared.text.PackedText.{PackedText}
+use Rattle.text_lines.specs.Words.{text_in}
+use Rattle.text_lines.specs.declared.text.PackedText.{PackedText}
 use Rattle.program_streams.specs.Spaces.{ends_in_space}
 use Rattle.program_streams.specs.Transfer.{most_taken}
 use Rattle.program_streams.specs.declared.transfer.InputFault.{InputFault}

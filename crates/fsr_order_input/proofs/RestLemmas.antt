@@ -5,8 +5,8 @@ use Rattle.std.proofs.Common.{arith, ap, append_assoc, length, sym, subst}
 use Rattle.std.specs.Prelude.{◌&&◌, not, nat_lt, Ok}
 use Rattle.std.proofs.KnownBytes.{Consumes-trans}
 use Rattle.std.specs.Io.KnownBytes.{Consumes}
-use Rattle.packed_text.proofs.SpaceLemmas.{trims}
-use Rattle.packed_text.specs.Words.{told}
+use Rattle.text_lines.proofs.SpaceLemmas.{trims}
+use Rattle.text_lines.specs.Words.{told}
 use Rattle.program_streams.proofs.SpaceLemmas.{adds_space}
 use Rattle.program_streams.specs.Spaces.{ends_in_space, max_space, most_kept_space, space_behind}
 use Rattle.program_streams.specs.Transfer.{most_taken}

@@ -1,6 +1,6 @@
 -- The input of the command `order`, of which a log in lines is packed (this project's own).
 use Rattle.std.specs.Prelude.{◌≡◌, ℕ, true, false, List, Option, Result, Ok, Err}
-use Rattle.packed_text.specs.Words.{text_in}
+use Rattle.text_lines.specs.Words.{text_in}
 use Rattle.program_runs.specs.Run.{IsWholeInput, TakesInBound}
 use Rattle.fsr_order_input.specs.Kinds.{are_lines}
 use Rattle.fsr_order_input.specs.declared.log.LogInput.{LogInput}

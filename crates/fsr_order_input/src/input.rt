@@ -2,7 +2,7 @@
 ghost use Rattle.std.specs.Prelude.{◌≡◌, ◌&&◌, not};
 ghost use Rattle.fsr_order_input.specs.Inputs.{TakesLog};
 ghost use Rattle.fsr_order_input.specs.inner.Inputs.{PacksPiece, PacksRest, TakesBehind, TakesLines};
-ghost use Rattle.packed_text.specs.Words.{text_in};
+ghost use Rattle.text_lines.specs.Words.{text_in};
 ghost use Rattle.program_runs.specs.Run.{CountsTaking, TellsUnlessTaken};
 ghost use Rattle.program_streams.specs.Spaces.{ends_in_space};
 ghost use Rattle.program_streams.specs.Stream.{HasRoom};
@@ -11,10 +11,10 @@ ghost use Rattle.fsr_order_input.specs.Kinds.{are_lines};
 
 use crate::kinds::are_lines;
 use crate::log::LogInput;
-use packed_text::PackedText;
 use program_runs::{Program, take_document, tell_untaken};
 use program_streams::{InputFault, Sink, Source, ends_in_space, read_piece};
 use std::alloc::Global;
+use text_lines::PackedText;
 
 /// The greatest number of bytes of a document that isn't in lines.
 const MAX_DOCUMENT: usize = 1_048_576;

@@ -3,8 +3,8 @@ ghost use Rattle.std.specs.Prelude.{◌≡◌, IfOk};
 ghost use Rattle.fsr_order_input.specs.Inputs.{input_text, IsByKind};
 
 use crate::kinds::are_lines;
-use packed_text::PackedText;
 use std::alloc::{AllocError, Global};
+use text_lines::PackedText;
 
 /// The input of the command `order`.
 #[derive(Drop)]

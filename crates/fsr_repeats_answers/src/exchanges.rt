@@ -5,17 +5,16 @@ ghost use Rattle.fsr_repeats_answers.specs.Judgements.{IsJudgement};
 ghost use Rattle.fsr_repeats_answers.specs.declared.judgement.Judgement.{Judgement};
 ghost use Rattle.object_sweep.specs.Rests.{RunForwards};
 ghost use Rattle.program_runs.specs.Answers.{GivesReply};
-ghost use Rattle.packed_text.specs.Words.{text_in};
+ghost use Rattle.text_lines.specs.Words.{text_in};
 
 use crate::exchanges_text::{lawful_text, limited_text, unlawful_text};
 use crate::judgement::{Judgement, judge};
 use exchanges_log::laws::read_log_runs_forwards;
 use exchanges_log::{ExchangesLog, read_exchanges};
 use history_core::Items;
-use packed_text::PackedText;
 use program_runs::{Answer, Fault};
 use std::alloc::{AllocError, Global};
-use text_lines::line_of;
+use text_lines::{PackedText, line_of};
 
 /// The answer of the command `order` to the text of a log whose records repeat: whether it has a lawful order, or what
 /// shows that it has none, or else the end at which it is lost; or that there are more configurations than the

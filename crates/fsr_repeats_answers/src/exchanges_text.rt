@@ -4,17 +4,17 @@ ghost use Rattle.fsr_repeats_answers.specs.ExchangesText.{begin_of, counts_text,
 ghost use Rattle.fsr_repeats_answers.specs.ExchangesText.{limited_text, shown_text, unlawful_text, unsourced_text};
 ghost use Rattle.print_evidence.specs.Limited.{limited_lines};
 ghost use Rattle.print_evidence.specs.Together.{together_text};
-ghost use Rattle.packed_text.specs.Words.{text_in};
+ghost use Rattle.text_lines.specs.Words.{text_in};
 
 use crate::evidence::Evidence;
 use exchanges_log::ExchangesLog;
 use object_core::Operation;
 use object_sources::Unsourced;
 use object_window::Window;
-use packed_text::PackedText;
 use print_evidence::{early_lines, limited_lines, lost_text, together_text, unwritten_lines};
 use print_reasons::{push_count, push_end};
 use std::alloc::{AllocError, Global};
+use text_lines::PackedText;
 
 pub(crate) fn lawful_text(alloc: Global, log: &ExchangesLog) -> Result<Vec<u8>, AllocError>
     ensures { IfOk result (λ text. text.items ≡ lawful_text log.now) }

@@ -4,7 +4,7 @@ ghost use Rattle.keys_log.specs.KeyFaults.{IsKeysBodyFault, IsKeysFault};
 ghost use Rattle.keys_log.specs.Keys.{IsKeysLog};
 ghost use Rattle.lines_log.specs.Logs.{first_key};
 ghost use Rattle.keys_log.specs.inner.KeyReadings.{AreFinished, AreKeysRead, AreReadWhole, IsKeyFinished};
-ghost use Rattle.packed_text.specs.Words.{text_in, told};
+ghost use Rattle.text_lines.specs.Words.{text_in, told};
 ghost use Rattle.text_lines.specs.Splits.{lines_of};
 ghost use Rattle.read_line.specs.Lines.{Head};
 
@@ -13,11 +13,11 @@ use crate::key_reader::KeyReader;
 use crate::keys_reader::KeysReader;
 use kept_lines::{KeyLog, KeysLog};
 use lines_log::{HEADER, finish, first_key, is_end, refused_at, text_of};
-use packed_text::PackedText;
 use program_runs::Fault;
 use read_document::DocError;
 use read_line::read_header;
 use std::alloc::{AllocError, Global};
+use text_lines::PackedText;
 
 /// What is kept of the log of each key of the operations that the text stands for, or the first line at fault.
 pub fn read_keys(alloc: Global, text: &PackedText) -> Result<KeysLog, Fault>

@@ -4,9 +4,9 @@ use Rattle.std.specs.Prelude.{if◌then◌else◌, nat_lt}
 use Rattle.program_streams.specs.Spaces.{ends_in_space, max_space, space_behind}
 use Rattle.text_lines.specs.Splits.{lines_of}
 use Rattle.text_lines.proofs.SplitLemmas.{feed_at, split_at_feed}
-use Rattle.packed_text.specs.Words.{IsNextLine, told}
-use Rattle.packed_text.proofs.LineLemmas.{told_some}
-use Rattle.packed_text.proofs.SpaceLemmas.{trims}
+use Rattle.text_lines.specs.Words.{IsNextLine, told}
+use Rattle.text_lines.proofs.LineLemmas.{told_some}
+use Rattle.text_lines.proofs.SpaceLemmas.{trims}
 use Rattle.lines_log.specs.Faults.{is_end}
 use Rattle.lines_log.specs.Logs.{text_of}
 

@@ -17,8 +17,8 @@ use Rattle.history_thinning.specs.Answers.{IsThinnedFault}
 use Rattle.history_core.proofs.Places.{get_pushed_cases}
 use Rattle.history_core.specs.declared.history.Op.{Op}
 use Rattle.kept_lines.specs.Numberings.{AreDistinct, IsNumbering}
-use Rattle.record_numbers.specs.Numbered.{AreNumbered}
-use Rattle.record_numbers.specs.declared.numbers.RecordNumbers.{RecordNumbers}
+use Rattle.kept_lines.specs.Numbered.{AreNumbered}
+use Rattle.kept_lines.specs.declared.numbers.RecordNumbers.{RecordNumbers}
 use Rattle.kept_lines.specs.Tasks.{KnowsTasks, Overlap}
 use Rattle.kept_lines.specs.declared.numbering.Numbering.{Numbering}
 use Rattle.read_line.specs.Lines.{has_record, IsAllowed, op_seen}

@@ -5,21 +5,20 @@ ghost use Rattle.history_core.specs.declared.history.Op.{Op};
 ghost use Rattle.lines_log.specs.Faults.{IsBodyFault, is_end, IsLinesFault};
 ghost use Rattle.lines_log.specs.Logs.{first_key, IsLinesLog, key_said, text_of};
 ghost use Rattle.lines_log.specs.inner.Readings.{IsFinished, AreRead, IsReadWhole, rule_of};
-ghost use Rattle.packed_text.specs.Words.{text_in, told};
-ghost use Rattle.record_numbers.specs.Numbered.{AreNumbered};
+ghost use Rattle.text_lines.specs.Words.{text_in, told};
+ghost use Rattle.kept_lines.specs.Numbered.{AreNumbered};
 ghost use Rattle.read_line.specs.Lines.{entry_of};
 ghost use Rattle.text_lines.specs.Splits.{lines_of};
 
 use crate::faults::refused_at;
 use crate::reader::Reader;
-use kept_lines::LinesLog;
-use packed_text::PackedText;
+use kept_lines::{LinesLog, RecordNumbers};
 use program_runs::Fault;
 use program_streams::ends_in_space;
 use read_document::DocError;
 use read_line::{LineOp, LogLine, read_header, read_line};
-use record_numbers::RecordNumbers;
 use std::alloc::{AllocError, Global};
+use text_lines::PackedText;
 
 /// The line of the header.
 pub const HEADER: usize = 1;

@@ -1,12 +1,12 @@
 //! Numbers in place of records.
 ghost use Rattle.std.specs.Prelude.{◌≡◌, ℕ, List, option_map, IfOk, string_bytes};
-ghost use Rattle.record_numbers.specs.Numbered.{AreNumbered};
+ghost use Rattle.kept_lines.specs.Numbered.{AreNumbered};
 ghost use Rattle.lines_log.specs.inner.Numbers.{IsNumberedNow, IsRecordNow};
 ghost use Rattle.read_line.specs.Lines.{op_seen};
 
 use history_core::Op;
+use kept_lines::RecordNumbers;
 use read_line::LineOp;
-use record_numbers::RecordNumbers;
 use std::alloc::AllocError;
 
 /// An operation with the number of its record.

@@ -11,10 +11,9 @@ use crate::line::read_op;
 use crate::number::number_op;
 use crate::thin::{thin, with_unfinished};
 use history_thinning::Thinner;
-use kept_lines::{Reads, TurnError, Turns};
+use kept_lines::{Reads, RecordNumbers, TurnError, Turns};
 use program_runs::{Fault, LinesFault};
 use read_line::{LineOp, LogHeader};
-use record_numbers::RecordNumbers;
 use std::alloc::{AllocError, Global};
 use text_lines::line_at;
 

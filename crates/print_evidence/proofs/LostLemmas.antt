@@ -2,7 +2,7 @@
 use Rattle.std.proofs.Common.{◌≡◌, ◌∙◌, ◌+◌, ℕ, zero, suc, Bool, List, [], ◌∷◌, ap, arith, drop, map, refl, slice_get, sym}
 use Rattle.std.specs.Prelude.{unwrap_or}
 use Rattle.text_lines.specs.Splits.{lines_of}
-use Rattle.packed_text.specs.Words.{told}
+use Rattle.text_lines.specs.Words.{told}
 use Rattle.print_reasons.proofs.BodyLemmas.{told_body}
 use Rattle.print_reasons.specs.Text.{body_of}
 use Rattle.print_evidence.specs.Lost.{line_in}

@@ -1,11 +1,10 @@
 -- What is printed of a log that its limit makes unlawful (this project's own).
 use Rattle.std.specs.Prelude.{ℕ, ◌++◌, List, codes}
 use Rattle.history_core.specs.declared.reason.Reason.TheVariants.{Limit}
-use Rattle.print_search.specs.Text.{reason_text}
 use Rattle.text_lines.specs.Places.{line_at}
 use Rattle.print_evidence.specs.Lost.{line_in}
 use Rattle.print_reasons.specs.Sentences.{number_text}
-use Rattle.print_reasons.specs.Text.{in_lines, line_text}
+use Rattle.print_reasons.specs.Text.{line_text, reason_text}
 
 abbrev pub with_limit_text : ℕ → ℕ → ℕ → List ℕ
 with_limit_text place end limit =
@@ -16,4 +15,4 @@ with_limit_text place end limit =
 -- the line at which the log is lost with this limit, as it stands there, and when it ends
 abbrev pub limited_lines : List ℕ → ℕ → ℕ → ℕ → List ℕ
 limited_lines bytes place end limit =
-    reason_text (in_lines (Limit place)) ++ line_text place (line_in bytes place) ++ with_limit_text place end limit
+    reason_text (Limit place) ++ line_text place (line_in bytes place) ++ with_limit_text place end limit

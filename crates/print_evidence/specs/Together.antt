@@ -3,11 +3,11 @@ use Rattle.std.specs.Prelude.{ℕ, ◌++◌, List, codes}
 use Rattle.std.specs.List.{flat_map}
 use Rattle.print_evidence.specs.Lost.{line_in}
 use Rattle.print_reasons.specs.Sentences.{number_text}
-use Rattle.print_reasons.specs.Text.{line_text, write_lines}
+use Rattle.print_reasons.specs.Text.{line_text, place_lines}
 
 -- the lines of the operations at these places
 abbrev pub named_lines : List ℕ → List ℕ
-named_lines places = codes "unlawful together" ++ write_lines places ++ codes "\n"
+named_lines places = codes "unlawful together" ++ place_lines places ++ codes "\n"
 
 -- and as they stand in the log
 abbrev pub shown_lines : List ℕ → List ℕ → List ℕ

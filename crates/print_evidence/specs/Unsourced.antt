@@ -1,11 +1,10 @@
 -- What is printed of an operation that can't have found its record (this project's own).
 use Rattle.std.specs.Prelude.{ℕ, ◌++◌, List, codes, nat_lt, if◌then◌else◌}
 use Rattle.history_core.specs.declared.reason.Reason.TheVariants.{Unwritten, Early}
-use Rattle.print_search.specs.Text.{reason_text}
 use Rattle.text_lines.specs.Places.{line_at}
 use Rattle.print_evidence.specs.Lost.{line_in}
 use Rattle.print_reasons.specs.Sentences.{number_text}
-use Rattle.print_reasons.specs.Text.{in_lines, line_text}
+use Rattle.print_reasons.specs.Text.{line_text, reason_text}
 
 abbrev pub of_line : ℕ → List ℕ → List ℕ
 of_line place words = number_text (codes "Line ") (line_at place) ++ words
@@ -13,7 +12,7 @@ of_line place words = number_text (codes "Line ") (line_at place) ++ words
 -- that the operation at a place found a record that no other one can leave
 abbrev pub unwritten_lines : List ℕ → ℕ → List ℕ
 unwritten_lines bytes place =
-    reason_text (in_lines (Unwritten place)) ++ line_text place (line_in bytes place)
+    reason_text (Unwritten place) ++ line_text place (line_in bytes place)
     ++ of_line place (codes " found a record that is neither the opening nor written by another line.\n")
 
 -- the lines of two operations, as the log has them
@@ -35,6 +34,6 @@ later_text place source end begin =
 -- that the operation at a place found a record before the first source of it began
 abbrev pub early_lines : List ℕ → ℕ → ℕ → ℕ → ℕ → List ℕ
 early_lines bytes place source end begin =
-    reason_text (in_lines (Early place source)) ++ two_lines bytes place source
+    reason_text (Early place source) ++ two_lines bytes place source
     ++ of_line place (codes " found a record that no other line can have written by then: ")
     ++ later_text place source end begin

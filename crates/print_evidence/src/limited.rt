@@ -1,13 +1,13 @@
 //! The line at whose end a log is lost by its limit.
 ghost use Rattle.std.specs.Prelude.{◌≡◌, ◌++◌, IfOk, OnOk};
 ghost use Rattle.print_evidence.specs.Limited.{limited_lines, with_limit_text};
-ghost use Rattle.packed_text.specs.Words.{text_in};
+ghost use Rattle.text_lines.specs.Words.{text_in};
 
 use crate::lost::push_line_in;
 use history_core::Reason;
-use packed_text::PackedText;
 use print_reasons::{push_line_of, push_u64, push_words, reason_text};
 use std::alloc::{AllocError, Global};
+use text_lines::PackedText;
 
 /// That with this limit a log is lost at the end, at this moment, of the operation at a place; without, it is lawful.
 #[tactic(auto, using(std::proofs::Common::append_assoc))]

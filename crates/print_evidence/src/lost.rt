@@ -2,13 +2,12 @@
 ghost use Rattle.std.specs.Prelude.{◌≡◌, ◌++◌, [], drop, slice_get, unwrap_or, IfOk, OnOk};
 ghost use Rattle.print_evidence.specs.Lost.{head_text, line_in, lost_text, sentence_text};
 ghost use Rattle.text_lines.specs.Splits.{lines_of};
-ghost use Rattle.packed_text.specs.Words.{text_in};
+ghost use Rattle.text_lines.specs.Words.{text_in};
 ghost use Rattle.print_reasons.specs.Text.{line_text};
 
-use packed_text::PackedText;
 use print_reasons::{body_of, push_line, push_line_of, push_u64, push_words};
 use std::alloc::{AllocError, Global};
-use text_lines::split_line;
+use text_lines::{PackedText, split_line};
 
 /// That a log is lost at the end, at this moment, of the operation at a place.
 #[tactic(auto, using(std::proofs::Common::append_assoc))]

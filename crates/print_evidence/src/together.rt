@@ -1,12 +1,12 @@
 //! The operations of a window in which a log is lost.
 ghost use Rattle.std.specs.Prelude.{◌≡◌, ◌++◌, IfOk, OnOk};
 ghost use Rattle.print_evidence.specs.Together.{named_lines, shown_lines, together_text, window_text};
-ghost use Rattle.packed_text.specs.Words.{text_in};
+ghost use Rattle.text_lines.specs.Words.{text_in};
 
 use crate::lost::push_line_in;
-use packed_text::PackedText;
-use print_reasons::{push_u64, push_words, push_write_lines};
+use print_reasons::{push_place_lines, push_u64, push_words};
 use std::alloc::{AllocError, Global};
+use text_lines::PackedText;
 
 /// That no order of the operations at these places is lawful, as they are seen from the first moment to the last one,
 /// whatever the register held before.
@@ -31,7 +31,7 @@ fn push_named_lines(text: &mut Vec<u8>, places: &[usize]) -> Result<(), AllocErr
     ensures { OnOk result (text.new.items ≡ text.old.items ++ named_lines places.now) }
 {
     push_words(text, "unlawful together")?;
-    push_write_lines(text, places)?;
+    push_place_lines(text, places)?;
     push_words(text, "\n")
 }
 

@@ -1,13 +1,13 @@
 //! An operation that can't have found its record.
 ghost use Rattle.std.specs.Prelude.{◌≡◌, ◌++◌, IfOk, OnOk};
 ghost use Rattle.print_evidence.specs.Unsourced.{early_lines, later_text, of_line, two_lines, unwritten_lines};
-ghost use Rattle.packed_text.specs.Words.{text_in};
+ghost use Rattle.text_lines.specs.Words.{text_in};
 
 use crate::lost::push_line_in;
 use history_core::Reason;
-use packed_text::PackedText;
 use print_reasons::{push_line_of, push_u64, push_words, reason_text};
 use std::alloc::{AllocError, Global};
+use text_lines::PackedText;
 
 /// That the operation at a place found a record that no other one can leave.
 #[tactic(auto, using(std::proofs::Common::append_assoc))]

@@ -5,17 +5,17 @@ ghost use Rattle.print_keys.specs.KeysText.{keys_show_little, keys_text};
 ghost use Rattle.print_keys.specs.KeysText.{lawful_keys, order_text, orders_text};
 ghost use Rattle.print_keys.specs.KeysText.{totals, totals_text, unjudged_line, unlawful_key};
 ghost use Rattle.print_reasons.specs.Text.{writes_text};
-ghost use Rattle.packed_text.specs.Words.{text_in};
+ghost use Rattle.text_lines.specs.Words.{text_in};
 
 use crate::keys_verdict::KeysVerdict;
 use crate::whole::{whole_places, whole_reason, whole_thinned};
 use history_core::{LogAnswer, Reason};
 use kept_lines::{KeyLog, KeysLog, LinesLog};
-use packed_text::PackedText;
 use print_reasons::{
     are_few, push_count, push_end, push_little, push_words, push_writes, verdict_text,
 };
 use std::alloc::{AllocError, Global};
+use text_lines::PackedText;
 
 /// The counts of all keys together.
 #[derive(Clone, Copy)]

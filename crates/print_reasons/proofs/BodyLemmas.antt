@@ -1,8 +1,8 @@
 -- The lines behind the header by their codes.
 use Rattle.std.proofs.Common.{◌≡◌, ◌∙◌, [], ◌∷◌, ℕ, Bool, List, ap, drop, map, refl, sym}
 use Rattle.text_lines.specs.Splits.{lines_of}
-use Rattle.packed_text.specs.Words.{told}
-use Rattle.packed_text.proofs.LineLemmas.{lines_told}
+use Rattle.text_lines.specs.Words.{told}
+use Rattle.text_lines.proofs.LineLemmas.{lines_told}
 use Rattle.print_reasons.specs.Text.{body_of}
 
 pub told_body : (packed : Bool) (codes : List ℕ) → map (told packed) (body_of codes) ≡ body_of (told packed codes)

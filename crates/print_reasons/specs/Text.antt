@@ -9,22 +9,28 @@ use Rattle.history_core.specs.declared.reason.Reason.TheVariants.{Unwritten, Ear
 use Rattle.history_core.specs.declared.thinned.LogAnswer.{LogAnswer}
 use Rattle.history_core.specs.declared.thinned.LogAnswer.TheVariants.{Lawful, Unlawful as NoOrder}
 use Rattle.history_core.specs.declared.thinned.Thinned.{Thinned}
-use Rattle.print_search.specs.Text.{reason_text}
 use Rattle.text_lines.specs.Splits.{lines_of}
 use Rattle.text_lines.specs.Places.{line_at}
 use Rattle.print_reasons.specs.Named.{in_kept, is_item, is_named, shown_of}
 use Rattle.print_reasons.specs.Sentences.{number_text, sentence_text}
 
--- a reason by its lines
-abbrev pub in_lines : Reason → Reason
-in_lines (Unwritten read) = Unwritten (line_at read)
-in_lines (Early read write) = Early (line_at read) (line_at write)
-in_lines (Stale before read) = Stale (line_at before) (line_at read)
-in_lines (Crossed a b c d) = Crossed (line_at a) (line_at b) (line_at c) (line_at d)
-in_lines (Limit refused) = Limit (line_at refused)
-
 abbrev pub line_feed : ℕ
 line_feed = 10
+
+-- the lines of the operations at these places, each behind a blank
+abbrev pub place_lines : List ℕ → List ℕ
+place_lines places = flat_map (λ place. number_text (codes " ") (line_at place)) places
+
+-- a rule, and the lines of the operations that show it
+abbrev pub rule_text : List ℕ → List ℕ → List ℕ
+rule_text words places = words ++ place_lines places ++ line_feed ∷ []
+
+abbrev pub reason_text : Reason → List ℕ
+reason_text (Unwritten read) = rule_text (codes "unlawful unwritten") (read ∷ [])
+reason_text (Early read write) = rule_text (codes "unlawful early") (read ∷ write ∷ [])
+reason_text (Stale before read) = rule_text (codes "unlawful stale") (before ∷ read ∷ [])
+reason_text (Crossed a b c d) = rule_text (codes "unlawful crossed") (a ∷ b ∷ c ∷ d ∷ [])
+reason_text (Limit refused) = rule_text (codes "unlawful limit") (refused ∷ [])
 
 -- a line of the log behind its number
 abbrev pub line_text : ℕ → List ℕ → List ℕ
@@ -77,15 +83,11 @@ shown_text bytes thinned reason =
 -- a reason, the lines that show it, and a sentence
 abbrev pub unlawful_text : List ℕ → Thinned → ℕ → Reason → List ℕ
 unlawful_text bytes thinned most reason =
-    reason_text (in_lines reason) ++ opening_text (is_of_opening reason) bytes ++ shown_text bytes thinned reason
+    reason_text reason ++ opening_text (is_of_opening reason) bytes ++ shown_text bytes thinned reason
     ++ sentence_text thinned most reason
 
--- the lines of these writes, each behind a blank
-abbrev pub write_lines : List ℕ → List ℕ
-write_lines writes = flat_map (λ place. number_text (codes " ") (line_at place)) writes
-
 abbrev pub writes_text : List ℕ → List ℕ
-writes_text writes = codes "writes:" ++ write_lines writes ++ line_feed ∷ []
+writes_text writes = rule_text (codes "writes:") writes
 
 -- the verdict, and the writes of a lawful order where they are asked for
 abbrev pub lawful_text : Bool → List ℕ → List ℕ

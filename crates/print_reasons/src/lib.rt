@@ -12,5 +12,5 @@ mod text;
 pub use counts::{are_few, push_count, push_end, push_little};
 pub use log_text::{lines_text, shows_little};
 pub use named::{in_kept, is_named, shown_of};
-pub use sentence::{push_line_of, push_u64, push_words};
-pub use text::{body_of, push_line, push_write_lines, push_writes, reason_text, verdict_text};
+pub use sentence::{push_line_of, push_u64, push_unwritten, push_words};
+pub use text::{body_of, push_line, push_place_lines, push_writes, reason_text, verdict_text};

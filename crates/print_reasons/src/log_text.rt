@@ -1,14 +1,14 @@
 //! All that is printed of a log in lines.
 ghost use Rattle.std.specs.Prelude.{◌≡◌, ◌++◌, IfOk, OnOk};
-ghost use Rattle.packed_text.specs.Words.{text_in};
+ghost use Rattle.text_lines.specs.Words.{text_in};
 ghost use Rattle.print_reasons.specs.LogText.{counts_text, lines_text, shown_text, shows_little};
 
 use crate::counts::{are_few, push_count, push_end, push_little};
 use crate::text::verdict_text;
 use history_core::LogAnswer;
 use kept_lines::LinesLog;
-use packed_text::PackedText;
 use std::alloc::{AllocError, Global};
+use text_lines::PackedText;
 
 /// The verdict, with the writes in order if that is asked for, how little is shown, if so, and the counts.
 #[tactic(auto, using(std::proofs::Common::append_assoc))]

@@ -31,7 +31,8 @@ pub(crate) fn push_sentence(
     }
 }
 
-fn push_unwritten(text: &mut Vec<u8>, read: usize) -> Result<(), AllocError>
+/// That a read gave a record that nobody had written.
+pub fn push_unwritten(text: &mut Vec<u8>, read: usize) -> Result<(), AllocError>
     ensures { OnOk result (text.new.items ≡ text.old.items ++ unwritten_text read) }
 {
     push_line_of(text, "Line ", read)?;

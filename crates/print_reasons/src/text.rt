@@ -1,22 +1,19 @@
 //! The printed lines.
 ghost use Rattle.std.specs.Prelude.{◌≡◌, ◌++◌, ◌∷◌, [], map, IfOk, OnOk};
-ghost use Rattle.packed_text.specs.Words.{text_in, told};
+ghost use Rattle.text_lines.specs.Words.{text_in, told};
 ghost use Rattle.print_reasons.specs.Sentences.{number_text};
-ghost use Rattle.print_reasons.specs.Text.{body_of, head_text, in_lines, is_of_opening, lawful_text, line_text};
+ghost use Rattle.print_reasons.specs.Text.{body_of, head_text, is_of_opening, lawful_text, line_text};
 ghost use Rattle.print_reasons.specs.Text.{named_text, opening_text, shown_text, unlawful_text, verdict_text};
-ghost use Rattle.print_reasons.specs.Text.{write_lines, writes_text};
+ghost use Rattle.print_reasons.specs.Text.{place_lines, reason_text, rule_text, writes_text};
 ghost use Rattle.text_lines.specs.Splits.{lines_of};
 ghost use Rattle.text_lines.specs.Places.{line_at};
-ghost use Rattle.print_search.specs.Text.{reason_text};
 
 use crate::named::{in_kept, is_named_next, next_of, shown_of};
 use crate::sentence::{push_line_of, push_sentence};
-use history_core::{LogAnswer, Op, Reason, Search, Thinned};
+use history_core::{LogAnswer, Op, Reason, Thinned};
 use itoa::Buffer;
-use packed_text::PackedText;
-use print_search::search_text;
 use std::alloc::{AllocError, Global};
-use text_lines::{line_of, split_line};
+use text_lines::{PackedText, line_of, split_line};
 
 /// The verdict, and of an unlawful log what shows it.
 pub fn verdict_text(
@@ -46,19 +43,26 @@ fn lawful_text(alloc: Global, order: bool, writes: &[usize]) -> Result<Vec<u8>, 
 }
 
 /// The lines of the writes, in the order that was found.
-#[tactic(auto, using(std::proofs::Common::append_assoc))]
 pub fn push_writes(text: &mut Vec<u8>, writes: &[usize]) -> Result<(), AllocError>
     ensures { OnOk result (text.new.items ≡ text.old.items ++ writes_text writes.now) }
 {
-    text.extend_from_slice(b"writes:")?;
-    push_write_lines(text, writes)?;
+    push_rule(text, "writes:", writes)
+}
+
+/// Words, and the lines of the operations at these places.
+#[tactic(auto, using(std::proofs::Common::append_assoc))]
+fn push_rule(text: &mut Vec<u8>, words: &str, places: &[usize]) -> Result<(), AllocError>
+    ensures { OnOk result (text.new.items ≡ text.old.items ++ rule_text words.now places.now) }
+{
+    text.extend_from_slice(words.as_bytes())?;
+    push_place_lines(text, places)?;
     text.extend_from_slice(b"\n")
 }
 
-pub fn push_write_lines(text: &mut Vec<u8>, writes: &[usize]) -> Result<(), AllocError>
-    ensures { OnOk result (text.new.items ≡ text.old.items ++ write_lines writes.now) }
+pub fn push_place_lines(text: &mut Vec<u8>, places: &[usize]) -> Result<(), AllocError>
+    ensures { OnOk result (text.new.items ≡ text.old.items ++ place_lines places.now) }
 {
-    for place in writes {
+    for place in places {
         push_line_of(text, " ", *place)?;
     }
     Ok(())
@@ -136,38 +140,25 @@ fn push_first_line(text: &mut Vec<u8>, line: &[u8]) -> Result<(), AllocError>
     text.extend_from_slice(b"\n")
 }
 
+/// A reason by the lines of the operations that show it.
 pub fn reason_text(alloc: Global, reason: Reason) -> Result<Vec<u8>, AllocError>
-    ensures { IfOk result (λ text. text.items ≡ reason_text (in_lines reason)) }
+    ensures { IfOk result (λ text. text.items ≡ reason_text reason) }
 {
-    let reason = in_lines(reason)?;
-    search_text(alloc, &Search::Unlawful(reason))
+    match reason {
+        Reason::Unwritten { read } => rule_text(alloc, "unlawful unwritten", &[read]),
+        Reason::Early { read, write } => rule_text(alloc, "unlawful early", &[read, write]),
+        Reason::Stale { before, read } => rule_text(alloc, "unlawful stale", &[before, read]),
+        Reason::Crossed { a, b, c, d } => rule_text(alloc, "unlawful crossed", &[a, b, c, d]),
+        Reason::Limit { refused } => rule_text(alloc, "unlawful limit", &[refused]),
+    }
 }
 
-fn in_lines(reason: Reason) -> Result<Reason, AllocError>
-    ensures { IfOk result (λ told. told ≡ in_lines reason) }
+fn rule_text(alloc: Global, words: &str, places: &[usize]) -> Result<Vec<u8>, AllocError>
+    ensures { IfOk result (λ text. text.items ≡ rule_text words.now places.now) }
 {
-    Ok(match reason {
-        Reason::Unwritten { read } => Reason::Unwritten {
-            read: line_of(read)?,
-        },
-        Reason::Early { read, write } => Reason::Early {
-            read: line_of(read)?,
-            write: line_of(write)?,
-        },
-        Reason::Stale { before, read } => Reason::Stale {
-            before: line_of(before)?,
-            read: line_of(read)?,
-        },
-        Reason::Crossed { a, b, c, d } => Reason::Crossed {
-            a: line_of(a)?,
-            b: line_of(b)?,
-            c: line_of(c)?,
-            d: line_of(d)?,
-        },
-        Reason::Limit { refused } => Reason::Limit {
-            refused: line_of(refused)?,
-        },
-    })
+    let mut text = Vec::new(alloc);
+    push_rule(&mut text, words, places)?;
+    Ok(text)
 }
 
 /// The lines behind the first one.

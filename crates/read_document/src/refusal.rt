@@ -8,7 +8,7 @@ use std::fmt;
 /// Why a document is refused. The refusals are tested in this order, each over the whole document before the
 /// next one, but want of memory may come at any point. Of several keys with one fault the first in the order
 /// of the kind's keys is named.
-#[derive(Clone, Copy, PartialEq, Eq)]
+#[derive(Clone, Copy)]
 pub enum DocError {
     Long,
     /// The bytes are not one JSON text, or it nests deeper than 127.

@@ -1,13 +1,13 @@
 //! Whether the header of a log says that its records repeat.
 ghost use Rattle.std.specs.Prelude.{◌≡◌, IfOk, option_map};
-ghost use Rattle.packed_text.specs.Words.{text_in};
+ghost use Rattle.text_lines.specs.Words.{text_in};
 ghost use Rattle.serde_json.specs.View.{view};
 ghost use Rattle.read_line.specs.Repeats.{has_repeats, is_true, repeats_in, says_repeats};
 
-use packed_text::PackedText;
 use read_document::{DocError, is_kind, read_value};
 use serde_json::Value;
 use std::alloc::{AllocError, Global};
+use text_lines::PackedText;
 
 /// Whether the first line of a log is the header of one whose records repeat.
 pub fn has_repeats(alloc: Global, text: &PackedText) -> Result<bool, AllocError>

@@ -3,9 +3,9 @@
 use exchanges_log::read_exchanges;
 use object_core::Operation;
 use object_registers::Exchange;
-use packed_text::PackedText;
 use std::alloc::{AllocError, Global};
 use std::test::Fail;
+use text_lines::PackedText;
 
 const HEADER: &str = r#"{"kind":"lines","opening":0,"repeats":true}"#;
 

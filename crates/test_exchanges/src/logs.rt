@@ -1,10 +1,10 @@
 //! Whole logs: which are such, and their counts.
 
 use exchanges_log::read_exchanges;
-use packed_text::PackedText;
 use read_line::has_repeats;
 use std::alloc::{AllocError, Global};
 use std::test::Fail;
+use text_lines::PackedText;
 
 const HEADERS: &[(&[u8], bool)] = &[
     (br#"{"kind":"lines","opening":0,"repeats":true}"#, true),

@@ -1,7 +1,7 @@
 //! Packed texts.
 
-use packed_text::PackedText;
 use std::test::Fail;
+use text_lines::PackedText;
 
 /// Texts, and how many codes each takes: one for a phrase, for two digits and for any other byte.
 const TEXTS: &[(&str, usize)] = &[

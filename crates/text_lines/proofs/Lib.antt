@@ -1,1 +1,4 @@
+pub mod LineLemmas
+pub mod SpaceLemmas
 pub mod SplitLemmas
+pub mod WordLemmas

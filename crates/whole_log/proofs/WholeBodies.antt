@@ -6,7 +6,7 @@ use Rattle.std.proofs.lemmas.List.{append-nil}
 use Rattle.history_core.specs.declared.history.Op.{Op}
 use Rattle.text_lines.specs.Splits.{lines_of}
 use Rattle.read_line.specs.Lines.{Head, head_of, op_seen}
-use Rattle.record_numbers.specs.Numbered.{AreNumbered}
+use Rattle.kept_lines.specs.Numbered.{AreNumbered}
 use Rattle.kept_lines.specs.Reads.{KnowsReads, WereRead}
 use Rattle.kept_lines.specs.Tasks.{KnowsTasks, TakeTurns}
 use Rattle.read_line.specs.declared.line.LineOp.{LineOp}

@@ -1,7 +1,7 @@
 //! From a text to the log that it stands for.
 ghost use Rattle.std.specs.Prelude.{◌≡◌, ℕ, List, [], option_map, string_bytes, IfOk, OnOk};
 ghost use Rattle.lines_log.specs.Logs.{first_key, key_said, unfinished_in};
-ghost use Rattle.packed_text.specs.Words.{text_in, told};
+ghost use Rattle.text_lines.specs.Words.{text_in, told};
 ghost use Rattle.read_line.specs.Lines.{entry_of};
 ghost use Rattle.text_lines.specs.Splits.{lines_of};
 ghost use Rattle.whole_log.specs.WholeLogs.{IsWholeLog};
@@ -12,10 +12,10 @@ use crate::unread::Unread;
 use crate::whole_log::WholeLog;
 use history_core::Op;
 use lines_log::{is_end, text_of};
-use packed_text::PackedText;
 use read_document::DocError;
 use read_line::{LineOp, LogLine, read_header, read_line};
 use std::alloc::{AllocError, Global};
+use text_lines::PackedText;
 
 /// The log that the text stands for.
 pub fn read_whole(alloc: Global, text: &PackedText) -> Result<WholeLog, Unread>

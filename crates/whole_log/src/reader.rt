@@ -7,10 +7,9 @@ ghost use Rattle.read_line.specs.Lines.{IsAllowed, op_seen};
 use crate::line::read_op;
 use crate::unread::Unread;
 use history_core::Op;
-use kept_lines::{Reads, Turns};
+use kept_lines::{Reads, RecordNumbers, Turns};
 use lines_log::number_op;
 use read_line::{LineOp, LogHeader};
-use record_numbers::RecordNumbers;
 use std::alloc::{AllocError, Global};
 
 /// What was read of a log.

@@ -1,8 +1,8 @@
 -- How the input of `order` is taken behind its front. Only private functions cite this, which is this project's own.
 use Rattle.std.specs.Prelude.{◌≡◌, ◌<◌, ◌≤◌, ◌++◌, ◌⊎◌, ℕ, Bool, true, false, List, length, Option, Result, Ok, Err}
 use Rattle.std.specs.Io.KnownBytes.{Consumes, IsAtEnd}
-use Rattle.packed_text.specs.Words.{text_in}
-use Rattle.packed_text.specs.declared.text.PackedText.{PackedText}
+use Rattle.text_lines.specs.Words.{text_in}
+use Rattle.text_lines.specs.declared.text.PackedText.{PackedText}
 use Rattle.program_streams.specs.Spaces.{ends_in_space, most_kept_space, space_behind}
 use Rattle.program_streams.specs.Transfer.{most_taken}
 use Rattle.program_streams.specs.declared.transfer.InputFault.{InputFault}

@@ -1,8 +1,8 @@
 -- Records and operations that got numbers. Only private functions cite this, which is this project's own.
 use Rattle.std.specs.Prelude.{◌≡◌, ℕ, List, slice_get, Option, Some}
 use Rattle.history_core.specs.declared.history.Op.{Op}
-use Rattle.record_numbers.specs.Numbered.{AreNumbered}
-use Rattle.record_numbers.specs.declared.numbers.RecordNumbers.{RecordNumbers}
+use Rattle.kept_lines.specs.Numbered.{AreNumbered}
+use Rattle.kept_lines.specs.declared.numbers.RecordNumbers.{RecordNumbers}
 use Rattle.lines_log.specs.Logs.{IsItem, IsNumberedOp}
 
 -- the records that were met stay where they stand

@@ -2,7 +2,7 @@
 use Rattle.std.specs.Prelude.{◌≡◌, ℕ, List, [], ◌∷◌, ◌++◌, ◌⊎◌, length, Bool, true, false}
 use Rattle.std.specs.Prelude.{slice_get, None, Some, Ok, option_map}
 use Rattle.std.specs.Prelude.{string_bytes}
-use Rattle.record_numbers.specs.Numbered.{AreNumbered}
+use Rattle.kept_lines.specs.Numbered.{AreNumbered}
 use Rattle.kept_lines.specs.Reads.{WereRead, KnowsReads}
 use Rattle.text_lines.specs.Splits.{lines_of}
 use Rattle.kept_lines.specs.Tasks.{KnowsTasks}

@@ -87,13 +87,14 @@ fn refusals(alloc: Global, bytes: &[u8]) -> [Option<DocError>; 3] {
     }
 }
 
-const KIND: Option<DocError> = Some(DocError::Kind);
+const KIND: Option<&str> = Some("kind");
 
-const NOT_JSON: Option<DocError> = Some(DocError::NotJson);
+const NOT_JSON: Option<&str> = Some("not JSON");
 
-const MISSING: Option<DocError> = Some(DocError::Missing(Key::Opening));
+const MISSING: Option<&str> = Some("missing opening");
 
-const REFUSED: &[(&[u8], [Option<DocError>; 3])] = &[
+/// How each of the three is told.
+const REFUSED: &[(&[u8], [Option<&str>; 3])] = &[
     (CHECK, [None, KIND, KIND]),
     (CELL, [KIND, None, KIND]),
     (RACE, [KIND, KIND, None]),
@@ -103,11 +104,32 @@ const REFUSED: &[(&[u8], [Option<DocError>; 3])] = &[
     (br#"{"kind":"board"}"#, [KIND, MISSING, KIND]),
 ];
 
-#[test]
-fn refuses(rt: HostRuntime) {
-    for (place, (bytes, refused)) in REFUSED.iter().enumerate() {
-        assert!(rt; refusals(rt.alloc(), bytes) == *refused, "row {place}");
+/// Whether there is a refusal where there is a text, and it is told by that.
+fn is_refused(
+    alloc: Global,
+    refusal: Option<DocError>,
+    text: Option<&str>,
+) -> Result<bool, AllocError> {
+    match (refusal, text) {
+        (Some(refusal), Some(text)) => is_told(alloc, refusal, text),
+        (None, None) => Ok(true),
+        _ => Ok(false),
     }
+}
+
+#[test]
+fn refuses(rt: HostRuntime) -> Result<(), Fail> {
+    for (place, (bytes, refused)) in REFUSED.iter().enumerate() {
+        let [history, schedule, race] = refusals(rt.alloc(), bytes);
+        let [of_history, of_schedule, of_race] = *refused;
+        assert!(rt; is_refused(rt.alloc(), history, of_history)?, "row {place}");
+        assert!(rt;
+            is_refused(rt.alloc(), schedule, of_schedule)?,
+            "row {place}"
+        );
+        assert!(rt; is_refused(rt.alloc(), race, of_race)?, "row {place}");
+    }
+    Ok(())
 }
 
 /// Whether the refusal is told by this text.

@@ -3,7 +3,7 @@ use Rattle.std.specs.Prelude.{◌≡◌, ℕ, List, [], ◌∷◌, ◌++◌, len
 use Rattle.std.specs.Prelude.{option_map, string_bytes}
 use Rattle.lines_log.specs.Logs.{AreAll, AreLines, judged_line, LineRule, unfinished_in}
 use Rattle.lines_log.specs.inner.Readings.{HasRest}
-use Rattle.record_numbers.specs.Numbered.{AreNumbered}
+use Rattle.kept_lines.specs.Numbered.{AreNumbered}
 use Rattle.kept_lines.specs.Reads.{KnowsReads, WereRead}
 use Rattle.kept_lines.specs.Tasks.{KnowsTasks}
 use Rattle.whole_log.specs.declared.reader.Reader.{Reader}

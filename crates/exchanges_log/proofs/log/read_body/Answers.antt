@@ -2,7 +2,7 @@
 use Rattle.std.proofs.Common.{◌∙◌, ◌≡◌, Bool, true, false, arith, inl, refl, subst, sym}
 use Rattle.text_lines.specs.Splits.{lines_of}
 use Rattle.lines_log.specs.Faults.{is_end}
-use Rattle.packed_text.specs.Words.{told}
+use Rattle.text_lines.specs.Words.{told}
 use Rattle.exchanges_log.specs.ExchangeFaults.{IsExchangeFault}
 use Rattle.exchanges_log.specs.inner.ExchangeReadings.{rule_of, ReadsExchange}
 use Rattle.lines_log.proofs.PackedLemmas.{end_told, next_of, nothing_told, shorter_of, some_line}

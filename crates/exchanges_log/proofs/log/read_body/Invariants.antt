@@ -1,6 +1,6 @@
 -- The lines so far were read, and each took a byte of the text at least.
 use Rattle.std.proofs.Common.{◌≡◌, ◌+◌, ◌≤◌, ℕ, List, [], length}
-use Rattle.packed_text.specs.Words.{told}
+use Rattle.text_lines.specs.Words.{told}
 use Rattle.text_lines.specs.Splits.{lines_of}
 use Rattle.exchanges_log.specs.inner.ExchangeReadings.{AreExchangesRead, IsBodyReadSoFar, rule_of}
 use Rattle.exchanges_log.proofs.log.read_body.Given as goal

@@ -3,7 +3,7 @@ use Rattle.std.proofs.Common.{◌≡◌, List, ℕ, subst}
 use Rattle.std.proofs.lemmas.Result.{IfOk-weaker}
 use Rattle.history_core.specs.declared.history.Op.{Op}
 use Rattle.history_coherence.specs.Answers.{IsCoherence}
-use Rattle.packed_text.specs.Words.{text_in}
+use Rattle.text_lines.specs.Words.{text_in}
 use Rattle.program_runs.specs.declared.fault.Answer.{Answer}
 use Rattle.fsr_coherent_answers.specs.CoherenceAnswers.{IsFoundCoherence}
 use Rattle.fsr_coherent_answers.specs.CoherenceText.{printed}

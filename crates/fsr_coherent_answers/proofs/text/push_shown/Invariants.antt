@@ -1,7 +1,7 @@
 -- Each turn prints one line behind what was printed before.
 use Rattle.std.proofs.Common.{◌≡◌, ◌++◌, ℕ, List, map, take}
 use Rattle.print_reasons.specs.Text.{body_of}
-use Rattle.packed_text.specs.Words.{told}
+use Rattle.text_lines.specs.Words.{told}
 use Rattle.print_evidence.specs.Together.{shown_lines}
 use Rattle.fsr_coherent_answers.proofs.text.push_shown.Given as goal
 

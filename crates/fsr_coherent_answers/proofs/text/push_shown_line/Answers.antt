@@ -2,7 +2,7 @@
 use Rattle.std.proofs.Common.{◌≡◌, ◌∙◌, ◌++◌, [], List, ℕ, ap, map, slice_get}
 use Rattle.std.specs.Prelude.{unwrap_or}
 use Rattle.std.proofs.lemmas.Result.{on_ok_weaker}
-use Rattle.packed_text.specs.Words.{told}
+use Rattle.text_lines.specs.Words.{told}
 use Rattle.print_evidence.specs.Lost.{line_in}
 use Rattle.print_evidence.proofs.LostLemmas.{told_line}
 use Rattle.print_reasons.specs.Text.{body_of, line_text}

@@ -1,6 +1,6 @@
 -- A line that is refused for its key tells that there are several.
 use Rattle.std.proofs.Common.{◌∙◌, sym}
-use Rattle.packed_text.specs.Words.{text_in}
+use Rattle.text_lines.specs.Words.{text_in}
 use Rattle.fsr_keys_answers.proofs.ByKeysLemmas.{of_keys, of_one_key}
 use Rattle.fsr_keys_answers.proofs.by_keys.order_by_keys.Goals as goal
 

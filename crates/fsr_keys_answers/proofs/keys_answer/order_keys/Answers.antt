@@ -1,5 +1,5 @@
 -- The verdict is on the log that was read.
-use Rattle.packed_text.specs.Words.{text_in}
+use Rattle.text_lines.specs.Words.{text_in}
 use Rattle.fsr_keys_answers.proofs.keys_answer.order_keys.Goals as goal
 
 pub returns-in-Ok-answer_keys : goal.returns-in-Ok-answer_keys

@@ -2,7 +2,7 @@
 use Rattle.std.proofs.Common.{Ok}
 use Rattle.std.specs.Prelude.{unwrap_or}
 use Rattle.fsr_once_answers.specs.LinesAnswers.{Found}
-use Rattle.packed_text.specs.Words.{text_in}
+use Rattle.text_lines.specs.Words.{text_in}
 use Rattle.fsr_once_answers.proofs.StatusLemmas.{status_lines}
 use Rattle.fsr_once_answers.proofs.answer.order_lines.Goals as goal
 

@@ -1,6 +1,6 @@
 -- Each piece follows those before it, and one more came only where these didn't end in too much white space.
 use Rattle.std.proofs.Common.{sym, ◌∙◌}
-use Rattle.packed_text.specs.Words.{text_in}
+use Rattle.text_lines.specs.Words.{text_in}
 use Rattle.fsr_order_input.proofs.RestLemmas.{adds_rest, keeps_space, takes_rest}
 use Rattle.fsr_order_input.proofs.input.take_rest.Goals as goal
 

@@ -1,7 +1,7 @@
 -- Piece by piece, up to the end of the input or to too much white space.
 use Rattle.std.proofs.Common.{◌≡◌, ◌-◌, ◌^◌, ◌++◌, ℕ, List, false}
 use Rattle.std.specs.Io.KnownBytes.{Consumes, IsAtEnd}
-use Rattle.packed_text.specs.Words.{text_in}
+use Rattle.text_lines.specs.Words.{text_in}
 use Rattle.fsr_order_input.specs.inner.Inputs.{KeepsSpace}
 use Rattle.fsr_order_input.proofs.input.take_rest.Given as goal
 

@@ -1,6 +1,6 @@
 -- What was read is the log, or its fault, and what was printed is what is known of it.
 use Rattle.std.proofs.Common.{inr}
-use Rattle.packed_text.specs.Words.{text_in}
+use Rattle.text_lines.specs.Words.{text_in}
 use Rattle.fsr_repeats_answers.proofs.ExchangesLemmas.{judged}
 use Rattle.fsr_repeats_answers.proofs.exchanges.order_exchanges.Goals as goal
 

@@ -1,5 +1,5 @@
 -- The text is that of a log that its limit makes unlawful.
-use Rattle.packed_text.specs.Words.{text_in}
+use Rattle.text_lines.specs.Words.{text_in}
 use Rattle.fsr_repeats_answers.proofs.ExchangesLemmas.{limited_told}
 use Rattle.fsr_repeats_answers.proofs.exchanges.print.Goals as goal
 

@@ -1,7 +1,7 @@
 -- Each line is read behind those before it, up to the first at fault.
 use Rattle.std.proofs.Common.{◌∙◌, ◌≡◌, Bool, true, false, arith, inl, refl, subst, sym}
 use Rattle.text_lines.specs.Splits.{lines_of}
-use Rattle.packed_text.specs.Words.{told}
+use Rattle.text_lines.specs.Words.{told}
 use Rattle.lines_log.specs.Faults.{is_end}
 use Rattle.keys_log.specs.KeyFaults.{IsKeyedFault}
 use Rattle.lines_log.specs.Logs.{first_key}

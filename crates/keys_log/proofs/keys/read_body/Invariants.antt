@@ -3,7 +3,7 @@ use Rattle.std.proofs.Common.{◌+◌, ◌≤◌, [], length}
 use Rattle.read_line.specs.Lines.{Head}
 use Rattle.lines_log.specs.Logs.{first_key}
 use Rattle.keys_log.specs.inner.KeyReadings.{AreKeysRead, ArePartlyRead}
-use Rattle.packed_text.specs.Words.{told}
+use Rattle.text_lines.specs.Words.{told}
 use Rattle.text_lines.specs.Splits.{lines_of}
 use Rattle.keys_log.proofs.keys.read_body.Given as goal
 

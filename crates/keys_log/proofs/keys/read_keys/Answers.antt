@@ -1,6 +1,6 @@
 -- The header and the body were read.
 use Rattle.std.proofs.Common.{◌∙◌, ◌≡◌, [], List, Option, ℕ, true, false, ap, inl, inr, subst, sym}
-use Rattle.packed_text.specs.Words.{text_in, told}
+use Rattle.text_lines.specs.Words.{text_in, told}
 use Rattle.read_line.specs.Lines.{head_seen}
 use Rattle.lines_log.specs.Faults.{is_end}
 use Rattle.lines_log.specs.Logs.{text_of}

@@ -1,7 +1,7 @@
 -- The lines so far were read, and each took a byte of the text at least.
 use Rattle.std.proofs.Common.{◌≡◌, ◌+◌, ◌≤◌, ℕ, List, [], length}
 use Rattle.lines_log.specs.inner.Readings.{AreRead, IsPartlyRead, rule_of}
-use Rattle.packed_text.specs.Words.{told}
+use Rattle.text_lines.specs.Words.{told}
 use Rattle.text_lines.specs.Splits.{lines_of}
 use Rattle.lines_log.proofs.log.read_body.Given as goal
 

@@ -1,7 +1,7 @@
 -- The header and the body were read.
 use Rattle.std.proofs.Common.{◌∙◌, ◌≡◌, true, false, ap, inl, inr, string_bytes, sym}
 use Rattle.text_lines.specs.Splits.{lines_of}
-use Rattle.packed_text.specs.Words.{text_in, told}
+use Rattle.text_lines.specs.Words.{text_in, told}
 use Rattle.read_line.specs.Lines.{head_seen}
 use Rattle.lines_log.specs.Faults.{is_end}
 use Rattle.lines_log.specs.Logs.{text_of}

@@ -3,8 +3,8 @@ use Rattle.std.proofs.Common.{◌≡◌, ◌∙◌, inl, inr, ℕ, List, Option,
 use Rattle.std.specs.Prelude.{option_map, string_bytes}
 use Rattle.history_core.proofs.Places.{get_stays}
 use Rattle.kept_lines.specs.Numberings.{MeetsRecord}
-use Rattle.record_numbers.specs.Numbered.{GaveRecord}
-use Rattle.record_numbers.specs.declared.numbers.RecordNumbers.{RecordNumbers}
+use Rattle.kept_lines.specs.Numbered.{GaveRecord}
+use Rattle.kept_lines.specs.declared.numbers.RecordNumbers.{RecordNumbers}
 use Rattle.lines_log.specs.inner.Numbers.{Grow, IsRecordNow}
 use Rattle.lines_log.proofs.number.number_record.Goals as goal
 

@@ -1,7 +1,7 @@
 -- What the codes of the line stand for is the line.
 use Rattle.std.proofs.Common.{◌≡◌, ◌∙◌, ◌++◌, Bool, List, ℕ, ap}
 use Rattle.std.proofs.lemmas.Result.{on_ok_weaker}
-use Rattle.packed_text.specs.Words.{text_in, told}
+use Rattle.text_lines.specs.Words.{text_in, told}
 use Rattle.print_evidence.specs.Lost.{line_in}
 use Rattle.print_evidence.proofs.LostLemmas.{told_line}
 use Rattle.print_reasons.specs.Text.{line_text}

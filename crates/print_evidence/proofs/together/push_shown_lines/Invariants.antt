@@ -1,6 +1,6 @@
 -- Each turn prints one line behind what was printed before.
 use Rattle.std.proofs.Common.{◌≡◌, ◌++◌, take}
-use Rattle.packed_text.specs.Words.{text_in}
+use Rattle.text_lines.specs.Words.{text_in}
 use Rattle.print_evidence.specs.Together.{shown_lines}
 use Rattle.print_evidence.proofs.together.push_shown_lines.Given as goal
 

@@ -2,7 +2,7 @@
 use Rattle.std.proofs.Common.{◌≡◌, ◌∙◌, ◌++◌, List, ℕ, ap, map}
 use Rattle.std.proofs.lemmas.Result.{on_ok_weaker}
 use Rattle.text_lines.specs.Splits.{lines_of}
-use Rattle.packed_text.specs.Words.{text_in, told}
+use Rattle.text_lines.specs.Words.{text_in, told}
 use Rattle.print_reasons.specs.Text.{body_of, named_text}
 use Rattle.print_reasons.proofs.BodyLemmas.{told_body}
 use Rattle.print_reasons.proofs.text.push_body.Goals as goal

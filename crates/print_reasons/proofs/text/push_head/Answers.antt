@@ -2,8 +2,8 @@
 use Rattle.std.proofs.Common.{◌≡◌, ◌∙◌, ◌++◌, List, ℕ, ap, map, sym}
 use Rattle.std.proofs.lemmas.Result.{on_ok_weaker}
 use Rattle.text_lines.specs.Splits.{lines_of}
-use Rattle.packed_text.specs.Words.{text_in, told}
-use Rattle.packed_text.proofs.LineLemmas.{lines_told}
+use Rattle.text_lines.specs.Words.{text_in, told}
+use Rattle.text_lines.proofs.LineLemmas.{lines_told}
 use Rattle.print_reasons.specs.Text.{head_text}
 use Rattle.print_reasons.proofs.text.push_head.Goals as goal
 

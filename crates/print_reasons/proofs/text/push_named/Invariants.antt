@@ -1,7 +1,7 @@
 -- What was printed so far stands before what the rest gives, and each line took a code of the text at least.
 use Rattle.std.proofs.Common.{◌≡◌, ◌+◌, ◌≤◌, ◌++◌, length, map}
 use Rattle.text_lines.specs.Splits.{lines_of}
-use Rattle.packed_text.specs.Words.{told}
+use Rattle.text_lines.specs.Words.{told}
 use Rattle.print_reasons.specs.Text.{named_text}
 use Rattle.print_reasons.proofs.text.push_named.Given as goal
 

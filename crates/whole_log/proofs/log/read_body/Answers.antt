@@ -2,7 +2,7 @@
 use Rattle.std.proofs.Common.{◌≡◌, ◌∙◌, Bool, true, false, subst, sym}
 use Rattle.text_lines.specs.Splits.{lines_of}
 use Rattle.lines_log.specs.Faults.{is_end}
-use Rattle.packed_text.specs.Words.{told}
+use Rattle.text_lines.specs.Words.{told}
 use Rattle.lines_log.proofs.PackedLemmas.{end_told, next_of, nothing_told, shorter_of}
 use Rattle.whole_log.specs.inner.WholeReadings.{ReadsWholeLine, whole_rule}
 use Rattle.whole_log.proofs.WholeBodies.{all_read, one_more}

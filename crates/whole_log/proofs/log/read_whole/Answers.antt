@@ -3,7 +3,7 @@ use Rattle.std.proofs.Common.{◌≡◌, ◌∙◌, false, ap, string_bytes, sym
 use Rattle.text_lines.specs.Splits.{lines_of}
 use Rattle.lines_log.specs.Faults.{is_end}
 use Rattle.lines_log.specs.Logs.{text_of}
-use Rattle.packed_text.specs.Words.{text_in, told}
+use Rattle.text_lines.specs.Words.{text_in, told}
 use Rattle.read_line.specs.Lines.{head_seen}
 use Rattle.lines_log.proofs.BodyLemmas.{same_rule}
 use Rattle.lines_log.proofs.PackedLemmas.{next_of, told_text}

@@ -1,6 +1,0 @@
--- As many empty buckets as turns.
-use Rattle.std.proofs.Common.{◌≡◌, replicate}
-use Rattle.record_numbers.proofs.links.Links.new.Given as goal
-
-abbrev pub invariant-loop : goal.invariant-loop
-invariant-loop l = l.last.items ≡ replicate l.counter 0
