@@ -87,47 +87,38 @@ fn refusals(alloc: Global, bytes: &[u8]) -> [Option<DocError>; 3] {
     }
 }
 
-const KIND: Option<&str> = Some("kind");
-
-const NOT_JSON: Option<&str> = Some("not JSON");
-
-const MISSING: Option<&str> = Some("missing opening");
-
-/// How each of the three is told.
-const REFUSED: &[(&[u8], [Option<&str>; 3])] = &[
-    (CHECK, [None, KIND, KIND]),
-    (CELL, [KIND, None, KIND]),
-    (RACE, [KIND, KIND, None]),
-    (b"{", [NOT_JSON, NOT_JSON, NOT_JSON]),
-    (br#"{"kind":"race"}"#, [KIND, KIND, MISSING]),
-    (br#"{"kind":"check"}"#, [MISSING, KIND, KIND]),
-    (br#"{"kind":"board"}"#, [KIND, MISSING, KIND]),
+/// How each of the three is told, or nothing where the bytes are accepted.
+const REFUSED: &[(&[u8], &str, &str, &str)] = &[
+    (CHECK, "", "kind", "kind"),
+    (CELL, "kind", "", "kind"),
+    (RACE, "kind", "kind", ""),
+    (b"{", "not JSON", "not JSON", "not JSON"),
+    (br#"{"kind":"race"}"#, "kind", "kind", "missing opening"),
+    (br#"{"kind":"check"}"#, "missing opening", "kind", "kind"),
+    (br#"{"kind":"board"}"#, "kind", "missing opening", "kind"),
 ];
 
-/// Whether there is a refusal where there is a text, and it is told by that.
-fn is_refused(
-    alloc: Global,
-    refusal: Option<DocError>,
-    text: Option<&str>,
-) -> Result<bool, AllocError> {
-    match (refusal, text) {
-        (Some(refusal), Some(text)) => is_told(alloc, refusal, text),
-        (None, None) => Ok(true),
-        _ => Ok(false),
+/// Whether there is a refusal that is told by this text, or none where there is no text.
+fn is_refused(alloc: Global, refusal: Option<DocError>, text: &str) -> Result<bool, AllocError> {
+    match refusal {
+        Some(refusal) => is_told(alloc, refusal, text),
+        None => Ok(text.is_empty()),
     }
 }
 
 #[test]
 fn refuses(rt: HostRuntime) -> Result<(), Fail> {
-    for (place, (bytes, refused)) in REFUSED.iter().enumerate() {
+    for (bytes, of_history, of_schedule, of_race) in REFUSED {
         let [history, schedule, race] = refusals(rt.alloc(), bytes);
-        let [of_history, of_schedule, of_race] = *refused;
-        assert!(rt; is_refused(rt.alloc(), history, of_history)?, "row {place}");
+        assert!(rt;
+            is_refused(rt.alloc(), history, of_history)?,
+            "a history: {of_history}"
+        );
         assert!(rt;
             is_refused(rt.alloc(), schedule, of_schedule)?,
-            "row {place}"
+            "a schedule: {of_schedule}"
         );
-        assert!(rt; is_refused(rt.alloc(), race, of_race)?, "row {place}");
+        assert!(rt; is_refused(rt.alloc(), race, of_race)?, "a race: {of_race}");
     }
     Ok(())
 }
