@@ -320,11 +320,11 @@ cat >"$room/wanted" <<'DOCUMENT'
 {"kind":"log","opening":[0,0,0],"limit":1,"lines":[2,3,4],"ops":[
  {"who":0,"kind":"write","begin":10,"end":14,"record":[2,2,2]},
  {"who":0,"kind":"write","begin":20,"end":26,"record":[3,3,3]},
- {"who":2,"kind":"read","begin":22,"end":25,"record":[4,4,4]}]}
+ {"who":1,"kind":"read","begin":22,"end":25,"record":[4,4,4]}]}
 DOCUMENT
 ends_fsr 1 out order --small examples/lines_unwritten.jsonl
 
-# The read of the opening is behind the write of line 2. That of line 4 has no part in it.
+# The read of the opening is behind the write of line 2. That of line 4 has no part in it. No document takes the number 40 of a task.
 cat >"$room/stale.jsonl" <<'LOG'
 {"kind":"lines","opening":0}
 {"who":40,"kind":"write","begin":0,"end":4,"record":7}

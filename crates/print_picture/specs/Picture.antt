@@ -2,12 +2,14 @@
 -- the marks of what breaks the order or of why there is none, and the order's joins and points.
 use Rattle.std.specs.Prelude.{ℕ, ◌+◌, ◌-◌, ◌*◌, ◌/◌, ◌^◌, ◌++◌, min, List, [], ◌∷◌, codes, Bool, true, false}
 use Rattle.std.specs.Prelude.{Option, None, Some, slice_get}
-use Rattle.std.specs.Prelude.{zero, suc, nat_le, if◌then◌else◌}
+use Rattle.std.specs.Prelude.{zero, suc, nat_le, length, not, ◌&&◌, if◌then◌else◌}
 use Rattle.std.specs.Fmt.{decimal}
-use Rattle.std.specs.List.{flat_map}
+use Rattle.std.specs.List.{flat_map, list_any}
 use Rattle.std.specs.Option.{unwrap_or}
 use Rattle.history_core.specs.Orders.{is_write, listed_at}
 use Rattle.history_core.specs.declared.band.Band.{Band}
+use Rattle.history_core.specs.declared.history.Kind.{Kind}
+use Rattle.history_core.specs.declared.history.Kind.TheVariants.{Write, Read, Refused}
 use Rattle.history_core.specs.declared.reason.Reason.{Reason}
 use Rattle.history_core.specs.declared.reason.Reason.TheVariants as reason
 use Rattle.history_explain.specs.declared.breaks.Break.{Break}
@@ -292,10 +294,20 @@ lanes_of Actors ops = actors_of ops
 lanes_of Cell ops = 6
 lanes_of (Board n) ops = min 4 n * min 4 n
 
-abbrev pub shown_terms : Lanes → List Term → List Term
-shown_terms Actors terms = terms
-shown_terms Cell terms = []
-shown_terms (Board n) terms = terms
+abbrev pub is_refused : Kind → Bool
+is_refused Write = false
+is_refused Read = false
+is_refused Refused = true
+
+-- a single term says nothing where no write was refused
+abbrev pub told_terms : List (Op Band) → List Term → List Term
+told_terms ops terms =
+    if nat_le (length terms) 1 && not (list_any (λ (o : Op Band). is_refused o.kind) ops) then [] else terms
+
+abbrev pub shown_terms : Lanes → List (Op Band) → List Term → List Term
+shown_terms Actors ops terms = told_terms ops terms
+shown_terms Cell ops terms = []
+shown_terms (Board n) ops terms = terms
 
 unfoldable pub frame_text : Lanes → List ℕ → Scale → ℕ → ℕ → List (Op Band) → List Term → List ℕ
 frame_text lanes moments s count high ops terms =
@@ -315,7 +327,7 @@ unfoldable pub picture_of : Scene → List ℕ
 picture_of c =
     let s = scale_of c.history.ops in
     let count = lanes_of c.lanes c.history.ops in
-    frame_text c.lanes c.moments s count (high_of count) c.history.ops (shown_terms c.lanes c.history.terms)
+    frame_text c.lanes c.moments s count (high_of count) c.history.ops (shown_terms c.lanes c.history.ops c.history.terms)
     ++ arrows_text s c.history.ops c.finding ++ ops_text s c.stamps c.lines 0 c.history.ops
     ++ flat_map (visit_text c.lanes s) c.visits ++ finding_text s c.lines c.history.ops c.order c.points c.finding
     ++ order_shapes s c.history.ops c.order c.points ++ end_text c.lines c.finding

@@ -1,14 +1,17 @@
 //! The text of a picture.
 
 ghost use Rattle.std.specs.Prelude.{◌≡◌, [], IfOk};
-ghost use Rattle.print_picture.specs.Picture.{high_of, picture_of, shown_terms};
+ghost use Rattle.std.specs.List.{list_any};
+ghost use Rattle.history_core.specs.declared.band.Band.{Band};
+ghost use Rattle.history_core.specs.declared.history.Op.{Op};
+ghost use Rattle.print_picture.specs.Picture.{high_of, is_refused, picture_of, shown_terms, told_terms};
 
 use crate::finding::{push_arrows, push_end, push_finding};
 use crate::frame::push_frame;
 use crate::lanes::lanes_of;
 use crate::marks::{push_ops, push_order, push_visits};
 use crate::scene::Scene;
-use history_core::Term;
+use history_core::{Band, Kind, Op, Term};
 use picture_shapes::{Lanes, Scale, y_of};
 use std::alloc::{AllocError, Global};
 
@@ -24,7 +27,7 @@ pub fn picture_text(alloc: Global, scene: &Scene) -> Result<Vec<u8>, AllocError>
     let lines = scene.lines.as_slice();
     let order = scene.order.as_slice();
     let points = scene.points.as_slice();
-    let terms = shown_terms(scene.lanes, scene.history.terms.as_slice());
+    let terms = shown_terms(scene.lanes, ops, scene.history.terms.as_slice());
     let scale = Scale::of(ops);
     let count = lanes_of(scene.lanes, ops);
     let mut text = with_room(alloc, ops.len())?;
@@ -54,13 +57,37 @@ fn with_room(alloc: Global, operations: usize) -> Result<Vec<u8>, AllocError>
     Vec::with_capacity(alloc, 2048 + 400 * operations.min(MOST_ROOM))
 }
 
-fn shown_terms(lanes: Lanes, terms: &[Term]) -> &[Term]
-    ensures { result.now ≡ shown_terms lanes terms.now }
+fn shown_terms<'a>(lanes: Lanes, ops: &[Op<Band>], terms: &'a [Term]) -> &'a [Term]
+    ensures { result.now ≡ shown_terms lanes ops.now terms.now }
 {
     match lanes {
+        Lanes::Actors => told_terms(ops, terms),
         Lanes::Cell => &[],
-        _ => terms,
+        Lanes::Board { .. } => terms,
     }
+}
+
+/// A single term says nothing where no write was refused.
+fn told_terms<'a>(ops: &[Op<Band>], terms: &'a [Term]) -> &'a [Term]
+    ensures { result.now ≡ told_terms ops.now terms.now }
+{
+    if terms.len() <= 1 && !has_refused(ops) {
+        &[]
+    } else {
+        terms
+    }
+}
+
+fn has_refused(ops: &[Op<Band>]) -> bool
+    ensures { result ≡ list_any (λ (o : Op Band). is_refused o.kind) ops.now }
+{
+    ops.iter().any(|op| is_refused(op.kind))
+}
+
+fn is_refused(kind: Kind) -> bool
+    ensures { result ≡ is_refused kind }
+{
+    kind == Kind::Refused
 }
 
 fn high_of(lanes: usize) -> u64

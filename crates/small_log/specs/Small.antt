@@ -3,9 +3,9 @@
 -- stand. There the record that was written on line n is [n,n,n], and the opening [0,0,0] (this project's own).
 use Rattle.std.specs.Prelude.{ℕ, ◌++◌, ◌==◌, zero, suc, List, [], ◌∷◌, codes, length, map, if◌then◌else◌, Bool, ◌&&◌}
 use Rattle.std.specs.Prelude.{slice_get, unwrap_or, option_map, Option, None}
-use Rattle.std.specs.Prelude.{Some}
+use Rattle.std.specs.Prelude.{Some, nat_le}
 use Rattle.std.specs.Fmt.{decimal}
-use Rattle.std.specs.List.{flat_map, position}
+use Rattle.std.specs.List.{flat_map, list_all, position}
 use Rattle.history_core.specs.declared.history.Op.{Op}
 use Rattle.history_core.specs.declared.history.Kind.{Kind}
 use Rattle.history_core.specs.declared.history.Kind.TheVariants.{Write, Read, Refused}
@@ -73,9 +73,13 @@ told_of lines ops (suc n) = told_of lines ops n ++ one_or_none (option_map (told
 abbrev pub told_ops : List ℕ → List (Op ℕ) → List (Op ℕ)
 told_ops lines ops = told_of lines ops (length ops)
 
--- its tasks are numbered by their first operations
+-- whether a document takes the numbers of these tasks
+abbrev pub has_actors : List (Op ℕ) → Bool
+has_actors ops = list_all (λ (o : Op ℕ). nat_le o.who 15) ops
+
+-- the number of a task: that of the log if a document takes those of all, and else that of its first operation
 abbrev pub task_of : List (Op ℕ) → ℕ → ℕ
-task_of ops who = unwrap_or (position (λ (o : Op ℕ). o.who == who) ops) 0
+task_of ops who = if has_actors ops then who else unwrap_or (position (λ (o : Op ℕ). o.who == who) ops) 0
 
 abbrev pub kind_text : Kind → List ℕ
 kind_text Write = codes "write"

@@ -2,7 +2,7 @@
 ghost use Rattle.std.specs.Prelude.{◌≡◌, ◌++◌, ◌==◌, ℕ, IfOk, OnOk, codes, length, map};
 ghost use Rattle.std.specs.List.{flat_map, position};
 ghost use Rattle.history_core.specs.declared.history.Op.{Op};
-ghost use Rattle.small_log.specs.Small.{band_text, begin_text, small_document, end_text, kind_text};
+ghost use Rattle.small_log.specs.Small.{band_text, begin_text, end_text, has_actors, kind_text, small_document};
 ghost use Rattle.print_reasons.specs.Sentences.{number_text};
 ghost use Rattle.text_lines.specs.Places.{line_at};
 ghost use Rattle.small_log.specs.Small.{lines_of, lines_text, named_of, next_text, one_line, one_named};
@@ -228,14 +228,26 @@ fn push_outcome(text: &mut Vec<u8>, op: Op<usize>) -> Result<(), AllocError>
     push_words(text, "}")
 }
 
-/// The number of a task, which is that of its first operation.
+/// The greatest number of an actor in a document.
+const MOST_ACTOR: usize = 15;
+
+/// The number of a task: that of the log if a document takes those of all, and else that of its first operation.
 fn task_of(ops: &[Op<usize>], who: usize) -> usize
     ensures { result ≡ task_of ops.now who }
 {
+    if has_actors(ops) {
+        return who;
+    }
     match first_of(ops, who) {
         Some(place) => place,
         None => 0,
     }
+}
+
+fn has_actors(ops: &[Op<usize>]) -> bool
+    ensures { result ≡ has_actors ops.now }
+{
+    ops.iter().all(|op| op.who <= MOST_ACTOR)
 }
 
 fn first_of(ops: &[Op<usize>], who: usize) -> Option<usize>

@@ -49,13 +49,14 @@ def make_log(source):
 def make_one(source, key=None, style=None):
     made, style = make_documents.log(source), source.randrange(len(NAMES)) if style is None else style
     ops, ends = sorted(made["ops"], key=lambda each: each["begin"]), {}
+    step = source.choice((1, 1, 1, 7))
     told, key = [], source.choice(({}, {}, {"key": None}, {"key": 7}, {"key": "a"}, {"key": [1, 2]})) if key is None else key
     for each in ops:
         who = next((who for who in range(9) if ends.get(who, -1) is not None and ends.get(who, -1) < each["begin"]), 9)
         who = each["who"] if source.random() < 0.02 else who
         ends[who] = each.get("end")
         record = each.get("record")
-        told.append({"who": who, "kind": each["kind"], "begin": each["begin"], "end": each.get("end"),
+        told.append({"who": step * who, "kind": each["kind"], "begin": each["begin"], "end": each.get("end"),
                      "record": None if record is None else name_of(source, style, record[0]), **key})
     header = {"kind": "lines", "opening": name_of(source, style, 0)}
     if source.random() < 0.5 or any(each["kind"] == "refused" for each in told) and source.random() < 0.95:

@@ -142,13 +142,15 @@ def most_before(opening, ops):
 
 def small(data, rule, lines):
     """What `--small` prints of a log that has this reason: a document of kind `log` of the lines that are shown of it. A record has the number of
-    the line that wrote it, 0 if it is the opening, and else that of the operation's own line; tasks have those of their first operations."""
+    the line that wrote it, 0 if it is the opening, and else that of the operation's own line. Tasks keep theirs up to 15; if one is above, all have
+    those of their first operations."""
     opening, limit, ops, _ = read(data)
     named = shown_of(rule, lines, ops)
     shown = [ops[line - 2] for line in named]
     numbers = {each["record"]: each["line"] for each in shown if each["kind"] == "write"} | {opening: 0}
     tasks = [each["who"] for each in shown]
-    texts = [json.dumps({"who": tasks.index(each["who"]), "kind": each["kind"], "begin": each["begin"], "end": each["end"],
+    actors = {who: who if max(tasks) <= 15 else tasks.index(who) for who in tasks}
+    texts = [json.dumps({"who": actors[each["who"]], "kind": each["kind"], "begin": each["begin"], "end": each["end"],
                          "record": [numbers.get(each["record"], each["line"])] * 3}, separators=(",", ":")) for each in shown]
     head = f'{{"kind":"log","opening":[0,0,0],"limit":{limit or 1},"lines":[{",".join(map(str, named))}],"ops":[\n '
     return head + ",\n ".join(texts) + "]}\n"
