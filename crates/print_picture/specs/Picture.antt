@@ -327,7 +327,8 @@ unfoldable pub picture_of : Scene → List ℕ
 picture_of c =
     let s = scale_of c.history.ops in
     let count = lanes_of c.lanes c.history.ops in
-    frame_text c.lanes c.moments s count (high_of count) c.history.ops (shown_terms c.lanes c.history.ops c.history.terms)
+    frame_text c.lanes c.moments s count (high_of count) c.history.ops
+    (shown_terms c.lanes c.history.ops c.history.terms)
     ++ arrows_text s c.history.ops c.finding ++ ops_text s c.stamps c.lines 0 c.history.ops
     ++ flat_map (visit_text c.lanes s) c.visits ++ finding_text s c.lines c.history.ops c.order c.points c.finding
     ++ order_shapes s c.history.ops c.order c.points ++ end_text c.lines c.finding
