@@ -44,7 +44,7 @@ SMALL = '''{"kind":"log","opening":[0,0,0],"limit":1,"lines":[2,3],"ops":[
 LINED = CROSSED.replace('"ops"', '"lines":[2,3,5,7,11,13],"ops"')
 # What the page says of a log is to begin so, by the examples.
 SAID = {
-    "lines_stale": "Line 3 gave the opening",
+    "lines_stale": "Line 3 gave an old record, the opening",
     "lines_crossed": "Lines 5 and 6 are of one record, lines 7 and 4 of another,",
     "lines_limit": "Of the writes at most 2 can stand before line 4",
     "lines_lost": "From time 5 to time 12 no order of these is lawful, whatever the register held before. Each other",
@@ -55,7 +55,7 @@ ODD_FILES = {
     "a byte order mark": (b"\xef\xbb\xbf" + STALE.encode(), "odd", "byte order mark"),
     "two records that aren't UTF-8": (STALE.encode().replace(b"[0]", b'"\xff"').replace(b"7", b'"\xfe"'), "odd", "isn't a text in UTF-8"),
     "lines that end by carriage returns": (STALE.replace("\n", "\r").encode(), "odd", "no header"),
-    "lines that end by both": (STALE.replace("\n", "\r\n").encode(), "bad", "Line 3 gave the opening"),
+    "lines that end by both": (STALE.replace("\n", "\r\n").encode(), "bad", "Line 3 gave an old record, the opening"),
 }
 # Hands a file with this text to the page, by a drop or as what is pasted.
 DROP = """(() => {
@@ -496,7 +496,7 @@ class Use:
         self.js(LISTEN)
         self.after("example('lines_stale.jsonl')")
         heard = self.js("heard")
-        self.need(heard[-1].startswith("Not atomic: no order is lawful. Line 3 gave the opening"), f"one hears {heard}")
+        self.need(heard[-1].startswith("Not atomic: no order is lawful. Line 3 gave an old record, the opening"), f"one hears {heard}")
         self.after("ask()")
         heard = self.js("heard")
         self.need(len(heard) > 1 and heard[-1] != heard[-2], f"the same verdict again isn't heard: {heard}")
