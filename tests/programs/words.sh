@@ -316,6 +316,26 @@ ends_fsr 0 out order "$room/two.jsonl"
     echo '13 operations, 0 unfinished, 14 records, 1 of them read; no last line `done`'
 } >"$room/wanted"
 ends_fsr 1 out order "$room/torn.jsonl"
+
+# Nobody wrote the record of line 4. The opening and line 2 have its first word, line 3 its third, and none its second; behind "x" stands none.
+cat >"$room/words.jsonl" <<'LOG'
+{"kind":"lines","opening":[0,9],"words":[5,0,0]}
+{"who":0,"kind":"write","begin":1,"end":2,"record":[1,1],"words":[5,1,1]}
+{"who":0,"kind":"write","begin":4,"end":8,"record":[2,2],"words":[6,2,2]}
+{"who":1,"kind":"read","begin":5,"end":7,"record":[1,7],"words":[5,3,2,"x",5]}
+LOG
+{
+    echo 'unlawful unwritten 4'
+    awk '{ print "line " NR ": " $0 }' "$room/words.jsonl"
+    echo 'Line 4 gave a record that is neither the opening nor written.'
+    echo 'Lines of the writes that it could see: 2 3.'
+    echo 'Of its words the opening has 5.'
+    echo 'Of its words line 2 has 5.'
+    echo 'Of its words line 3 has 2.'
+    echo 'Of its words no other line above has 3.'
+    echo '3 operations, 0 unfinished, 4 records, 1 of them read; no last line `done`'
+} >"$room/wanted"
+ends_fsr 1 out order "$room/words.jsonl"
 cat >"$room/wanted" <<'DOCUMENT'
 {"kind":"log","opening":[0,0,0],"limit":1,"lines":[2,3,4],"ops":[
  {"who":0,"kind":"write","begin":10,"end":14,"record":[2,2,2]},

@@ -7,7 +7,8 @@ use Rattle.history_coherence.specs.declared.coherence.Incoherence.{Incoherence}
 use Rattle.history_coherence.specs.declared.coherence.Incoherence.TheVariants.{Unwritten, Ahead, Circle}
 use Rattle.history_coherence.specs.declared.coherence.Link.{Link}
 use Rattle.print_reasons.specs.Counts.{count_text, end_text, little_text}
-use Rattle.print_reasons.specs.Sentences.{number_text, unwritten_text}
+use Rattle.reason_sentences.specs.Numbers.{number_text}
+use Rattle.reason_sentences.specs.Sentences.{unwritten_text}
 use Rattle.print_reasons.specs.Text.{place_lines}
 use Rattle.print_evidence.specs.Together.{shown_lines}
 use Rattle.program_runs.specs.declared.fault.Answer.{Answer}

@@ -3,7 +3,8 @@ ghost use Rattle.std.specs.Prelude.{◌≡◌, ◌++◌, ℕ, List, map, IfOk, O
 ghost use Rattle.fsr_coherent_answers.specs.CoherenceText.{ahead_text, circle_text, coherence_text, counts_text};
 ghost use Rattle.fsr_coherent_answers.specs.CoherenceText.{found_text, incoherent_text, name_of, named_text};
 ghost use Rattle.fsr_coherent_answers.specs.CoherenceText.{sentence_text};
-ghost use Rattle.print_reasons.specs.Sentences.{number_text, unwritten_text};
+ghost use Rattle.reason_sentences.specs.Numbers.{number_text};
+ghost use Rattle.reason_sentences.specs.Sentences.{unwritten_text};
 ghost use Rattle.print_reasons.specs.Text.{body_of, line_text};
 ghost use Rattle.text_lines.specs.Words.{text_in, told};
 ghost use Rattle.print_evidence.specs.Lost.{line_in};
@@ -13,10 +14,8 @@ ghost use Rattle.text_lines.specs.Places.{line_at};
 use crate::lines::{body_lines, line_in};
 use crate::places::places_in;
 use history_coherence::{Coherence, Incoherence};
-use print_reasons::{
-    push_count, push_end, push_line, push_line_of, push_little, push_place_lines, push_unwritten,
-    push_words,
-};
+use print_reasons::{push_count, push_end, push_line, push_little, push_place_lines};
+use reason_sentences::{push_line_of, push_unwritten, push_words};
 use std::alloc::{AllocError, Global};
 use text_lines::PackedText;
 use whole_log::WholeLog;

@@ -7,7 +7,7 @@ use Rattle.std.proofs.lemmas.Bool.Decides.{nat_tests}
 use Rattle.std.proofs.lemmas.Option.{same_Some}
 use Rattle.history_core.specs.declared.history.Op.{Op}
 use Rattle.history_core.specs.Orders.{is_write, Precedes}
-use Rattle.print_reasons.specs.Seen.{could_see, had_ended, is_before, is_seen, last_begin, later_begin, one_seen, seen_by, seen_from}
+use Rattle.reason_sentences.specs.Seen.{could_see, had_ended, is_before, is_seen, last_begin, later_begin, one_seen, seen_by, seen_from}
 use Rattle.order_laws.specs.Regular.{IsVisible}
 
 both : (a b : Bool) → (a && b) ≡ true → (a ≡ true) × (b ≡ true)

@@ -21,8 +21,8 @@ use Rattle.history_core.specs.declared.reason.Reason.TheVariants.{Unwritten, Ear
 use Rattle.history_thinning.specs.Thinnings.{Equal}
 use Rattle.history_thinning.proofs.Reasons.{alike}
 use Rattle.order_laws.proofs.LoneLemmas.{IsLone}
-use Rattle.print_reasons.specs.Named.{is_item}
-use Rattle.small_log.specs.Small.{one_or_none, told_of, told_op, told_ops, told_record, writes}
+use Rattle.reason_sentences.specs.KeptAt.{is_item, writes}
+use Rattle.small_log.specs.Small.{one_or_none, told_of, told_op, told_ops, told_record}
 
 -- a line for each operation, none 0, and no two alike
 pub record AreLines (lines : List ℕ) (ops : List (Op ℕ)) : Type 0 where

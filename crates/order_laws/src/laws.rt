@@ -30,7 +30,7 @@ ghost use Rattle.print_keys.specs.KeysText.{whole_reason, whole_thinned};
 ghost use Rattle.fsr_once_answers.specs.LinesAnswers.{status_of};
 ghost use Rattle.fsr_once_answers.specs.Once.{IsAnswerOnce};
 ghost use Rattle.print_reasons.specs.LogText.{shown_text};
-ghost use Rattle.print_reasons.specs.Seen.{could_see};
+ghost use Rattle.reason_sentences.specs.Seen.{could_see};
 ghost use Rattle.fsr_order_answers.specs.Order.{IsOrderAnswer};
 ghost use Rattle.order_laws.specs.OneKey.{AreOfOneKey};
 ghost use Rattle.order_laws.specs.Parts.{IsOnceOrNone};

@@ -3,7 +3,7 @@ use Rattle.std.specs.Prelude.{ℕ, ◌++◌, List, codes}
 use Rattle.history_core.specs.declared.reason.Reason.TheVariants.{Limit}
 use Rattle.text_lines.specs.Places.{line_at}
 use Rattle.print_evidence.specs.Lost.{line_in}
-use Rattle.print_reasons.specs.Sentences.{number_text}
+use Rattle.reason_sentences.specs.Numbers.{number_text}
 use Rattle.print_reasons.specs.Text.{line_text, reason_text}
 
 abbrev pub with_limit_text : ℕ → ℕ → ℕ → List ℕ

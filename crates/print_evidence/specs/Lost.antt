@@ -1,7 +1,7 @@
 -- What is printed of a log that is lost at the end of an operation (this project's own).
 use Rattle.std.specs.Prelude.{ℕ, ◌++◌, List, [], codes, slice_get, unwrap_or}
 use Rattle.text_lines.specs.Places.{line_at}
-use Rattle.print_reasons.specs.Sentences.{number_text}
+use Rattle.reason_sentences.specs.Numbers.{number_text}
 use Rattle.print_reasons.specs.Text.{body_of, line_text}
 
 -- the line of the operation at a place

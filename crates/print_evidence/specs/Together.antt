@@ -2,7 +2,7 @@
 use Rattle.std.specs.Prelude.{ℕ, ◌++◌, List, codes}
 use Rattle.std.specs.List.{flat_map}
 use Rattle.print_evidence.specs.Lost.{line_in}
-use Rattle.print_reasons.specs.Sentences.{number_text}
+use Rattle.reason_sentences.specs.Numbers.{number_text}
 use Rattle.print_reasons.specs.Text.{line_text, place_lines}
 
 -- the lines of the operations at these places

@@ -5,7 +5,8 @@ ghost use Rattle.text_lines.specs.Splits.{lines_of};
 ghost use Rattle.text_lines.specs.Words.{text_in};
 ghost use Rattle.print_reasons.specs.Text.{line_text};
 
-use print_reasons::{body_of, push_line, push_line_of, push_u64, push_words};
+use print_reasons::{body_of, push_line};
+use reason_sentences::{push_line_of, push_u64, push_words};
 use std::alloc::{AllocError, Global};
 use text_lines::{PackedText, split_line};
 

@@ -4,7 +4,8 @@ ghost use Rattle.print_evidence.specs.Together.{named_lines, shown_lines, togeth
 ghost use Rattle.text_lines.specs.Words.{text_in};
 
 use crate::lost::push_line_in;
-use print_reasons::{push_place_lines, push_u64, push_words};
+use print_reasons::push_place_lines;
+use reason_sentences::{push_u64, push_words};
 use std::alloc::{AllocError, Global};
 use text_lines::PackedText;
 

@@ -5,7 +5,8 @@ ghost use Rattle.text_lines.specs.Words.{text_in};
 
 use crate::lost::push_line_in;
 use history_core::Reason;
-use print_reasons::{push_line_of, push_u64, push_words, reason_text};
+use print_reasons::reason_text;
+use reason_sentences::{push_line_of, push_u64, push_words};
 use std::alloc::{AllocError, Global};
 use text_lines::PackedText;
 

@@ -11,9 +11,8 @@ use crate::keys_verdict::KeysVerdict;
 use crate::whole::{whole_places, whole_reason, whole_thinned};
 use history_core::{LogAnswer, Reason};
 use kept_lines::{KeyLog, KeysLog, LinesLog};
-use print_reasons::{
-    are_few, push_count, push_end, push_little, push_words, push_writes, verdict_text,
-};
+use print_reasons::{are_few, push_count, push_end, push_little, push_writes, verdict_text};
+use reason_sentences::push_words;
 use std::alloc::{AllocError, Global};
 use text_lines::PackedText;
 

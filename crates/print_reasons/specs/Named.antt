@@ -6,8 +6,8 @@ use Rattle.history_core.specs.declared.history.Op.{Op}
 use Rattle.history_core.specs.Orders.{is_write}
 use Rattle.history_core.specs.declared.reason.Reason.{Reason}
 use Rattle.history_core.specs.declared.reason.Reason.TheVariants.{Unwritten, Early, Stale, Crossed, Limit}
-use Rattle.print_reasons.specs.KeptAt.{kept_at}
-use Rattle.print_reasons.specs.Seen.{could_see, most_seen}
+use Rattle.reason_sentences.specs.KeptAt.{is_item, kept_at}
+use Rattle.reason_sentences.specs.Seen.{could_see, most_seen}
 
 -- a reason by the kept operations
 abbrev pub in_kept : List ℕ → Reason → Reason
@@ -35,10 +35,6 @@ beside ops (Limit refused) = []
 
 abbrev pub shown_of : List (Op ℕ) → Reason → List ℕ
 shown_of ops reason = places_of reason ++ beside ops reason
-
-abbrev pub is_item : ℕ → Option ℕ → Bool
-is_item x None = false
-is_item x (Some y) = nat_eq x y
 
 -- both have a record, and the same
 abbrev pub same_item : Option ℕ → Option (Op ℕ) → Bool

@@ -1,6 +1,6 @@
 -- The printed lines of a search for an order of a log in lines (this project's own).
 use Rattle.std.specs.Prelude.{ℕ, ◌+◌, ◌++◌, ◌&&◌, List, [], ◌∷◌, drop, codes, Bool, false, true, if◌then◌else◌}
-use Rattle.std.specs.Prelude.{slice_get}
+use Rattle.std.specs.Prelude.{map, slice_get, take}
 use Rattle.std.specs.Fmt.{decimal}
 use Rattle.std.specs.List.{flat_map}
 use Rattle.history_core.specs.declared.history.Op.{Op}
@@ -11,8 +11,12 @@ use Rattle.history_core.specs.declared.thinned.LogAnswer.TheVariants.{Lawful, Un
 use Rattle.history_core.specs.declared.thinned.Thinned.{Thinned}
 use Rattle.text_lines.specs.Splits.{lines_of}
 use Rattle.text_lines.specs.Places.{line_at}
-use Rattle.print_reasons.specs.Named.{in_kept, is_item, is_named, shown_of}
-use Rattle.print_reasons.specs.Sentences.{number_text, sentence_text}
+use Rattle.reason_sentences.specs.KeptAt.{is_item, kept_at}
+use Rattle.reason_sentences.specs.Numbers.{number_text}
+use Rattle.reason_sentences.specs.Seen.{could_see, most_seen}
+use Rattle.reason_sentences.specs.Sentences.{place_at, sentence_text}
+use Rattle.record_words.specs.Origins.{origins_text}
+use Rattle.print_reasons.specs.Named.{in_kept, is_named, shown_of}
 
 abbrev pub line_feed : ℕ
 line_feed = 10
@@ -80,11 +84,24 @@ shown_text bytes thinned reason =
     named_text thinned.history.ops thinned.places (shown_of thinned.history.ops (in_kept thinned.places reason)) 0 0
     (body_of bytes)
 
--- a reason, the lines that show it, and a sentence
+-- the first writes that an operation could see, by their places in the log
+abbrev pub seen_places : Thinned → ℕ → List ℕ
+seen_places thinned read =
+    map (place_at thinned.places) (take most_seen (could_see thinned.history.ops (kept_at thinned.places read)))
+
+-- where an operation gave a record that nobody wrote, of which of these lines its words are
+abbrev pub words_text : List ℕ → Thinned → Reason → List ℕ
+words_text bytes thinned (Unwritten read) = origins_text bytes read (seen_places thinned read)
+words_text bytes thinned (Early read write) = []
+words_text bytes thinned (Stale before read) = []
+words_text bytes thinned (Crossed a b c d) = []
+words_text bytes thinned (Limit refused) = []
+
+-- a reason, the lines that show it, a sentence, and of which lines the words of a record are that nobody wrote
 abbrev pub unlawful_text : List ℕ → Thinned → ℕ → Reason → List ℕ
 unlawful_text bytes thinned most reason =
     reason_text reason ++ opening_text (is_of_opening reason) bytes ++ shown_text bytes thinned reason
-    ++ sentence_text thinned most reason
+    ++ sentence_text thinned most reason ++ words_text bytes thinned reason
 
 abbrev pub writes_text : List ℕ → List ℕ
 writes_text writes = rule_text (codes "writes:") writes

@@ -1,14 +1,12 @@
 //! Which of the kept operations a reason names.
-ghost use Rattle.std.specs.Prelude.{◌≡◌, ◌++◌, ◌==◌, nat_eq, slice_get, take, IfOk, OnOk};
-ghost use Rattle.std.specs.List.{list_any, position};
-ghost use Rattle.print_reasons.specs.KeptAt.{kept_at};
-ghost use Rattle.print_reasons.specs.Named.{beside, in_kept, is_item, is_named, places_of, same_item, shown_of};
-ghost use Rattle.print_reasons.specs.Named.{writes_one_of};
-ghost use Rattle.print_reasons.specs.Seen.{could_see, most_seen};
+ghost use Rattle.std.specs.Prelude.{◌≡◌, ◌++◌, nat_eq, slice_get, take, IfOk, OnOk};
+ghost use Rattle.std.specs.List.{list_any};
+ghost use Rattle.reason_sentences.specs.Seen.{could_see, most_seen};
+ghost use Rattle.print_reasons.specs.Named.{beside, in_kept, is_named, places_of, same_item, shown_of, writes_one_of};
 ghost use Rattle.print_reasons.specs.Text.{is_named_next, is_next, next_of};
 
-use crate::seen::{MOST_SEEN, could_see};
 use history_core::{Kind, Op, Reason};
+use reason_sentences::{MOST_SEEN, could_see, is_item, kept_at};
 use std::alloc::{AllocError, Global};
 
 /// A reason by the kept operations, which are at these places of the log.
@@ -88,22 +86,6 @@ fn places_of(alloc: Global, reason: Reason) -> Result<Vec<usize>, AllocError>
     }
 }
 
-/// Which of them is at a place.
-pub(crate) fn kept_at(places: &[usize], place: usize) -> usize
-    ensures { result ≡ kept_at places.now place }
-{
-    match found_at(places, place) {
-        Some(kept) => kept,
-        None => places.len(),
-    }
-}
-
-fn found_at(places: &[usize], place: usize) -> Option<usize>
-    ensures { result ≡ position (λ p. p == place) places.now }
-{
-    places.iter().position(|other| *other == place)
-}
-
 /// Whether the next of them is at this place and named.
 pub(crate) fn is_named_next(
     ops: &[Op<usize>],
@@ -174,14 +156,5 @@ fn same_item(item: Option<usize>, other: Option<Op<usize>>) -> bool
     match (item, other) {
         (Some(item), Some(other)) => is_item(item, other.item),
         _ => false,
-    }
-}
-
-fn is_item(item: usize, other: Option<usize>) -> bool
-    ensures { result ≡ is_item item other }
-{
-    match other {
-        Some(other) => item == other,
-        None => false,
     }
 }

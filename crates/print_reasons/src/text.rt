@@ -1,17 +1,18 @@
 //! The printed lines.
 ghost use Rattle.std.specs.Prelude.{◌≡◌, ◌++◌, ◌∷◌, [], map, IfOk, OnOk};
 ghost use Rattle.text_lines.specs.Words.{text_in, told};
-ghost use Rattle.print_reasons.specs.Sentences.{number_text};
 ghost use Rattle.print_reasons.specs.Text.{body_of, head_text, is_of_opening, lawful_text, line_text};
 ghost use Rattle.print_reasons.specs.Text.{named_text, opening_text, shown_text, unlawful_text, verdict_text};
-ghost use Rattle.print_reasons.specs.Text.{place_lines, reason_text, rule_text, writes_text};
+ghost use Rattle.print_reasons.specs.Text.{place_lines, reason_text, rule_text, seen_places, words_text, writes_text};
+ghost use Rattle.reason_sentences.specs.Sentences.{place_at};
+ghost use Rattle.record_words.specs.Origins.{origins_text};
 ghost use Rattle.text_lines.specs.Splits.{lines_of};
-ghost use Rattle.text_lines.specs.Places.{line_at};
 
 use crate::named::{in_kept, is_named_next, next_of, shown_of};
-use crate::sentence::{push_line_of, push_sentence};
 use history_core::{LogAnswer, Op, Reason, Thinned};
 use itoa::Buffer;
+use reason_sentences::{MOST_SEEN, could_see, kept_at, place_at, push_line_of, push_sentence};
+use record_words::push_origins;
 use std::alloc::{AllocError, Global};
 use text_lines::{PackedText, line_of, split_line};
 
@@ -82,7 +83,60 @@ fn unlawful_text(
     push_opening(alloc, &mut text, log, is_of_opening(reason))?;
     push_shown(alloc, &mut text, log, thinned, reason)?;
     push_sentence(alloc, &mut text, thinned, most, reason)?;
+    push_words_of(alloc, &mut text, log, thinned, reason)?;
     Ok(text)
+}
+
+/// Of which lines the words of a record are that nobody wrote.
+fn push_words_of(
+    alloc: Global,
+    text: &mut Vec<u8>,
+    log: &PackedText,
+    thinned: &Thinned,
+    reason: Reason,
+) -> Result<(), AllocError>
+    ensures { OnOk result (text.new.items ≡ text.old.items ++ words_text (text_in log.now) thinned.now reason) }
+{
+    match reason {
+        Reason::Unwritten { read } => push_torn_words(alloc, text, log, thinned, read),
+        _ => Ok(()),
+    }
+}
+
+fn push_torn_words(
+    alloc: Global,
+    text: &mut Vec<u8>,
+    log: &PackedText,
+    thinned: &Thinned,
+    read: usize,
+) -> Result<(), AllocError>
+    ensures { OnOk result (text.new.items
+        ≡ text.old.items ++ origins_text (text_in log.now) read (seen_places thinned.now read)) }
+{
+    let seen = seen_places(alloc, thinned, read)?;
+    push_origins(alloc, text, log, read, seen.as_slice())
+}
+
+/// The first writes that an operation could see, by their places in the log.
+fn seen_places(alloc: Global, thinned: &Thinned, read: usize) -> Result<Vec<usize>, AllocError>
+    ensures { IfOk result (λ seen. seen.items ≡ seen_places thinned.now read) }
+{
+    let places = thinned.places.as_slice();
+    let ops = thinned.history.ops.as_slice();
+    let mut kept = could_see(alloc, ops, kept_at(places, read))?;
+    kept.truncate(MOST_SEEN);
+    places_of(alloc, places, kept.as_slice())
+}
+
+/// The places of kept operations.
+fn places_of(alloc: Global, places: &[usize], kept: &[usize]) -> Result<Vec<usize>, AllocError>
+    ensures { IfOk result (λ found. found.items ≡ map (place_at places.now) kept.now) }
+{
+    let mut found = Vec::new(alloc);
+    for one in kept {
+        found.push(place_at(places, *one))?;
+    }
+    Ok(found)
 }
 
 /// Whether a reason speaks of the opening.

@@ -1,7 +1,7 @@
 -- A small log, made of a larger one that has no lawful order: of the kept operations those that are shown of the
 -- reason, with the writes of their records. It is printed as a document of kind `log` with the lines on which they
 -- stand. There the record that was written on line n is [n,n,n], and the opening [0,0,0] (this project's own).
-use Rattle.std.specs.Prelude.{ℕ, ◌++◌, ◌==◌, zero, suc, List, [], ◌∷◌, codes, length, map, if◌then◌else◌, Bool, ◌&&◌}
+use Rattle.std.specs.Prelude.{ℕ, ◌++◌, ◌==◌, zero, suc, List, [], ◌∷◌, codes, length, map, if◌then◌else◌, Bool}
 use Rattle.std.specs.Prelude.{slice_get, unwrap_or, option_map, Option, None}
 use Rattle.std.specs.Prelude.{Some, nat_le}
 use Rattle.std.specs.Fmt.{decimal}
@@ -11,13 +11,12 @@ use Rattle.history_core.specs.declared.history.Kind.{Kind}
 use Rattle.history_core.specs.declared.history.Kind.TheVariants.{Write, Read, Refused}
 use Rattle.history_core.specs.declared.reason.Reason.{Reason}
 use Rattle.history_core.specs.Kept.{limit_of}
-use Rattle.history_core.specs.Orders.{is_write}
-use Rattle.print_reasons.specs.Named.{is_item}
+use Rattle.reason_sentences.specs.KeptAt.{writes}
 use Rattle.history_core.specs.declared.thinned.LogAnswer.{LogAnswer}
 use Rattle.history_core.specs.declared.thinned.LogAnswer.TheVariants.{Lawful, Unlawful}
 use Rattle.history_core.specs.declared.thinned.Thinned.{Thinned}
 use Rattle.print_reasons.specs.Named.{in_kept, is_named, shown_of}
-use Rattle.print_reasons.specs.Sentences.{number_text}
+use Rattle.reason_sentences.specs.Numbers.{number_text}
 use Rattle.text_lines.specs.Places.{line_at}
 
 abbrev pub one_or_none : {A : Type 0} → Option A → List A
@@ -53,9 +52,6 @@ lines_of ops named places (suc n) = lines_of ops named places n ++ one_line ops 
 abbrev pub small_lines : Thinned → Reason → List ℕ
 small_lines thinned reason =
     lines_of thinned.history.ops (shown_in thinned reason) thinned.places (length thinned.history.ops)
-
-abbrev pub writes : ℕ → Op ℕ → Bool
-writes item o = is_write o.kind && is_item item o.item
 
 -- by what a record is told: the line of its write, 0 if it is the opening, and else that of the operation itself
 abbrev pub told_record : List ℕ → List (Op ℕ) → ℕ → ℕ → ℕ

@@ -3,7 +3,7 @@ ghost use Rattle.std.specs.Prelude.{◌≡◌, ◌++◌, ◌==◌, ℕ, IfOk, On
 ghost use Rattle.std.specs.List.{flat_map, position};
 ghost use Rattle.history_core.specs.declared.history.Op.{Op};
 ghost use Rattle.small_log.specs.Small.{band_text, begin_text, end_text, has_actors, kind_text, small_document};
-ghost use Rattle.print_reasons.specs.Sentences.{number_text};
+ghost use Rattle.reason_sentences.specs.Numbers.{number_text};
 ghost use Rattle.text_lines.specs.Places.{line_at};
 ghost use Rattle.small_log.specs.Small.{lines_of, lines_text, named_of, next_text, one_line, one_named};
 ghost use Rattle.small_log.specs.Small.{one_or_none, op_text, ops_text, outcome_text, record_text};
@@ -11,7 +11,8 @@ ghost use Rattle.small_log.specs.Small.{small_lines, small_ops, small_text, task
 
 use crate::told::told_ops;
 use history_core::{Kind, LogAnswer, Op, Reason, Thinned};
-use print_reasons::{in_kept, is_named, push_u64, push_words, shown_of};
+use print_reasons::{in_kept, is_named, shown_of};
+use reason_sentences::{push_u64, push_words};
 use std::alloc::{AllocError, Global};
 use text_lines::line_of;
 

@@ -1,11 +1,10 @@
 //! The records of a small log, told by the lines of their writes.
-ghost use Rattle.std.specs.Prelude.{◌≡◌, ◌++◌, ℕ, IfOk, OnOk, length, option_map, slice_get, unwrap_or};
-ghost use Rattle.std.specs.List.{position};
-ghost use Rattle.print_reasons.specs.Named.{is_item};
-ghost use Rattle.small_log.specs.Small.{one_or_none, told_of, told_op, told_ops, told_record, writes};
+ghost use Rattle.std.specs.Prelude.{◌≡◌, IfOk, option_map, slice_get, unwrap_or};
+ghost use Rattle.small_log.specs.Small.{told_op, told_ops, told_record};
 
 use crate::small::push_one;
-use history_core::{Kind, Op};
+use history_core::Op;
+use reason_sentences::write_of;
 use std::alloc::{AllocError, Global};
 
 /// These operations, which stand on these lines, with records that are told by lines.
@@ -55,33 +54,11 @@ fn told_record(lines: &[usize], ops: &[Op<usize>], place: usize, item: usize) ->
     }
 }
 
-/// The place of the write of a record.
-fn write_of(ops: &[Op<usize>], item: usize) -> Option<usize>
-    ensures { result ≡ position (writes item) ops.now }
-{
-    ops.iter().position(|op| writes(item, op))
-}
-
 fn line_at(lines: &[usize], place: usize) -> usize
     ensures { result ≡ unwrap_or (slice_get lines.now place) 0 }
 {
     match lines.get(place) {
         Some(line) => *line,
         None => 0,
-    }
-}
-
-fn writes(item: usize, op: &Op<usize>) -> bool
-    ensures { result ≡ writes item op.now }
-{
-    op.kind == Kind::Write && is_item(item, op.item)
-}
-
-fn is_item(item: usize, other: Option<usize>) -> bool
-    ensures { result ≡ is_item item other }
-{
-    match other {
-        Some(other) => item == other,
-        None => false,
     }
 }

@@ -46,8 +46,16 @@ def make_log(source):
     return [source.choice(logs)[0], *ops, *last]
 
 
+def words_for(source, value):
+    """What a line says of the words of the record of this number; now and then it is none that they can be."""
+    if source.random() < 0.1:
+        return source.choice(([], [value], value, [value, "x", 7], ["x", value], "x", None, [1.5, 7], {"0": 7}))
+    return [value, source.randrange(3), *[7] * source.randrange(3)]
+
+
 def make_one(source, key=None, style=None):
     made, style = make_documents.log(source), source.randrange(len(NAMES)) if style is None else style
+    has_words = source.random() < 0.4
     ops, ends = sorted(made["ops"], key=lambda each: each["begin"]), {}
     step = source.choice((1, 1, 1, 7))
     told, key = [], source.choice(({}, {}, {"key": None}, {"key": 7}, {"key": "a"}, {"key": [1, 2]})) if key is None else key
@@ -58,7 +66,11 @@ def make_one(source, key=None, style=None):
         record = each.get("record")
         told.append({"who": step * who, "kind": each["kind"], "begin": each["begin"], "end": each.get("end"),
                      "record": None if record is None else name_of(source, style, record[0]), **key})
+        if has_words and record is not None:
+            told[-1]["words"] = words_for(source, record[0])
     header = {"kind": "lines", "opening": name_of(source, style, 0)}
+    if has_words and source.random() < 0.8:
+        header["words"] = words_for(source, 0)
     if source.random() < 0.5 or any(each["kind"] == "refused" for each in told) and source.random() < 0.95:
         header["limit"] = made["limit"]
     last = []

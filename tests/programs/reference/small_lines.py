@@ -1,5 +1,6 @@
 """Logs in lines, as docs/FORMATS.md says them: an independent reading, and what `fsr order` answers."""
 
+import itertools
 import json
 
 import documents
@@ -102,7 +103,35 @@ def told(data, reason):
     head = [1] if reason[0] in ("unwritten", "stale") else []
     shows = "".join(f"line {line}: {texts[line - 1]}\n" for line in head + shown_of(reason[0], lines, ops))
     which = key_line(key) + LATER if len(keys_of(ops)) > 1 else ""
-    return f"unlawful {' '.join(reason)}\n" + shows + sentence(reason[0], lines, opening, limit, ops) + which + counts(opening, ops, ended)
+    says = sentence(reason[0], lines, opening, limit, ops)
+    if reason[0] == "unwritten":
+        says += origins(texts, lines[0], could_see(lines[0], ops)[:MOST_SEEN])
+    return f"unlawful {' '.join(reason)}\n" + shows + says + which + counts(opening, ops, ended)
+
+
+def words_of(text, key):
+    """The words of a line: the whole numbers in front at `words`, else at this key; one number is the array of it."""
+    row = documents.read_json(text.encode())
+    for name in ("words", key):
+        found = row.get(name)
+        numbers = list(itertools.takewhile(is_whole, found if isinstance(found, list) else [found]))
+        if numbers:
+            return numbers
+    return []
+
+
+def origins(texts, line, seen):
+    """Which of the words of a line, if it has several, the opening and the lines of these writes have at the same places."""
+    words = words_of(texts[line - 1], "record")
+    if len(words) < 2:
+        return ""
+    parts, lost = [], dict(enumerate(words))
+    for other in (1, *seen):
+        own = dict(enumerate(words_of(texts[other - 1], "opening" if other == 1 else "record")))
+        parts.append(("the opening" if other == 1 else f"line {other}", [word for place, word in enumerate(words) if own.get(place) == word]))
+        lost = {place: word for place, word in lost.items() if own.get(place) != word}
+    parts.append(("no other line above", list(lost.values())))
+    return "".join(f"Of its words {name} has {' '.join(map(str, found))}.\n" for name, found in parts if found)
 
 
 def named_by(lines, ops):
@@ -179,6 +208,18 @@ def is_order_of(opening, limit, own, row):
                for order in searches.atomic_orders(opening, own))
 
 
+def old_record(lines, ops):
+    """Of two crossed records one that had been replaced: an operation that has it, the write behind that, an operation that shows this write,
+    and one that gave the old record then. Nothing where neither write began behind the end of the first operation of the other record."""
+    a, b, c, d = lines
+    for before, of_other, by, late in ((a, b, c, d), (c, d, a, b)):
+        other = ops[of_other - 2]
+        for each in of_key(ops, other["key"]):
+            if each["kind"] == "write" and each["record"] == other["record"] and ended_before(ops[before - 2], each):
+                return before, each["line"], by, late
+    return None
+
+
 def sentence(rule, lines, opening, limit, ops):
     """Why the operations on these lines show it, with the times."""
 
@@ -197,6 +238,12 @@ def sentence(rule, lines, opening, limit, ops):
     if rule == "stale":
         return f"Line {lines[1]} gave an old record, the opening: {apart(*lines)}.\n"
     if rule == "crossed":
+        old = old_record(lines, ops)
+        if old:
+            before, write, by, late = old
+            shows = "" if write == by else f", as line {by} shows"
+            return (f"Line {late} gave an old record, that of line {before}, which line {write} had replaced{shows}: "
+                    f"{apart(before, write)}; {apart(by, late)}.\n")
         one = f"Lines {first} and {lines[3]} are of one record"
         if lines[1] == lines[2]:
             both = f"{one}, and line {lines[1]}, of another, stands between them"

@@ -1,6 +1,6 @@
 -- Three pieces stand behind each other.
 use Rattle.std.proofs.lemmas.Result.{on_ok_weaker}
-use Rattle.print_reasons.proofs.CountLemmas.{three_pieces}
+use Rattle.reason_sentences.proofs.CountLemmas.{three_pieces}
 use Rattle.fsr_coherent_answers.proofs.text.push_ahead.Goals as goal
 
 pub returns : goal.returns

@@ -2,7 +2,7 @@
 use Rattle.std.proofs.Common.{◌∙◌, ◌++◌, ap, codes}
 use Rattle.std.proofs.lemmas.Result.{on_ok_weaker}
 use Rattle.print_reasons.specs.Counts.{count_text}
-use Rattle.print_reasons.proofs.CountLemmas.{five_pieces}
+use Rattle.reason_sentences.proofs.CountLemmas.{five_pieces}
 use Rattle.fsr_coherent_answers.proofs.text.push_counts.Goals as goal
 
 pub returns : goal.returns

@@ -2,7 +2,7 @@
 use Rattle.std.proofs.Common.{◌≡◌, ℕ, ◌+◌, List, slice_get, Option, Some, arith, sym, ◌∙◌, ap}
 use Rattle.std.specs.Prelude.{unwrap_or}
 use Rattle.history_core.specs.declared.history.Op.{Op}
-use Rattle.print_reasons.specs.Seen.{could_see, last_begin, seen_by, seen_from}
+use Rattle.reason_sentences.specs.Seen.{could_see, last_begin, seen_by, seen_from}
 use Rattle.order_laws.proofs.SeenLemmas.{is_in_seen, seen, seen_is, visible}
 use Rattle.order_laws.proofs.laws.seen_are_regular.Goals as goal
 

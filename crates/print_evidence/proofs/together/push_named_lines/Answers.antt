@@ -1,7 +1,7 @@
 -- The lines stand behind the word, and a line feed behind them.
 use Rattle.std.proofs.Common.{codes}
 use Rattle.std.proofs.lemmas.Result.{on_ok_weaker}
-use Rattle.print_reasons.proofs.CountLemmas.{three_pieces}
+use Rattle.reason_sentences.proofs.CountLemmas.{three_pieces}
 use Rattle.print_reasons.specs.Text.{place_lines}
 use Rattle.print_evidence.proofs.together.push_named_lines.Goals as goal
 

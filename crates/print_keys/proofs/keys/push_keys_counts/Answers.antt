@@ -3,7 +3,7 @@ use Rattle.std.proofs.Common.{◌∙◌, ◌++◌, ap, ℕ}
 use Rattle.std.specs.Prelude.{codes}
 use Rattle.std.proofs.lemmas.Result.{on_ok_weaker}
 use Rattle.print_reasons.specs.Counts.{count_text}
-use Rattle.print_reasons.proofs.CountLemmas.{three_pieces}
+use Rattle.reason_sentences.proofs.CountLemmas.{three_pieces}
 use Rattle.print_keys.proofs.keys.push_keys_counts.Goals as goal
 
 pub returns : goal.returns

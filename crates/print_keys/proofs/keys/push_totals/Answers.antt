@@ -1,6 +1,6 @@
 -- The counts stand behind each other.
 use Rattle.std.proofs.lemmas.Result.{on_ok_weaker}
-use Rattle.print_reasons.proofs.CountLemmas.{four_pieces}
+use Rattle.reason_sentences.proofs.CountLemmas.{four_pieces}
 use Rattle.print_keys.proofs.keys.push_totals.Goals as goal
 
 pub returns : goal.returns

@@ -1,6 +1,6 @@
 -- The counts stand behind each other, and the end behind them.
 use Rattle.std.proofs.lemmas.Result.{on_ok_weaker}
-use Rattle.print_reasons.proofs.CountLemmas.{five_pieces}
+use Rattle.reason_sentences.proofs.CountLemmas.{five_pieces}
 use Rattle.print_reasons.proofs.log_text.push_counts.Goals as goal
 
 pub returns : goal.returns

@@ -1,7 +1,7 @@
 -- Each turn prints one piece more.
 use Rattle.std.specs.Prelude.{codes}
-use Rattle.print_reasons.proofs.CountLemmas.{one_more}
-use Rattle.print_reasons.specs.Sentences.{number_text}
+use Rattle.reason_sentences.proofs.CountLemmas.{one_more}
+use Rattle.reason_sentences.specs.Numbers.{number_text}
 use Rattle.small_log.proofs.small.push_more_lines.Goals as goal
 
 pub loop-line-preserved : goal.loop-line-preserved

@@ -2,7 +2,7 @@
 use Rattle.std.proofs.Common.{◌≡◌, ◌++◌, take}
 use Rattle.std.specs.Prelude.{codes}
 use Rattle.std.specs.List.{flat_map}
-use Rattle.print_reasons.specs.Sentences.{number_text}
+use Rattle.reason_sentences.specs.Numbers.{number_text}
 use Rattle.small_log.proofs.small.push_more_lines.Given as goal
 
 abbrev pub invariant-loop-line : goal.invariant-loop-line

@@ -1,5 +1,5 @@
 -- Each turn prints one piece more.
-use Rattle.print_reasons.proofs.CountLemmas.{one_more}
+use Rattle.reason_sentences.proofs.CountLemmas.{one_more}
 use Rattle.small_log.specs.Small.{next_text}
 use Rattle.small_log.proofs.small.push_rest.Goals as goal
 

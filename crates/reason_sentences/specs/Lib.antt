@@ -1,0 +1,6 @@
+pub mod Crossed
+pub mod KeptAt
+pub mod Numbers
+pub mod Seen
+pub mod Sentences
+pub mod Times

@@ -1,0 +1,103 @@
+//! Lines of a text, and their words.
+ghost use Rattle.std.specs.Prelude.{◌≡◌, IfOk, codes, option_map, slice_get};
+ghost use Rattle.text_lines.specs.Splits.{lines_of};
+ghost use Rattle.text_lines.specs.Words.{text_in, told};
+ghost use Rattle.record_words.specs.Origins.{all_words, line_in, opening_words, record_words, words_at};
+
+use crate::words::words_of;
+use history_core::Items;
+use std::alloc::{AllocError, Global};
+use text_lines::{PackedText, line_of, split_line};
+
+/// A line by its number, the header's is 1, with its words.
+#[derive(Drop)]
+pub struct LineWords {
+    pub line: usize,
+    pub words: Items<u64>,
+}
+
+/// The words of the header and of the operations at these places.
+pub(crate) fn all_words(
+    alloc: Global,
+    packed: &PackedText,
+    places: &[usize],
+) -> Result<Vec<LineWords>, AllocError>
+    ensures { IfOk result (λ lines. lines.items ≡ all_words (text_in packed.now) places.now) }
+{
+    let mut lines = Vec::new(alloc);
+    let opening = opening_words(alloc, packed)?;
+    lines.push(opening)?;
+    for place in places {
+        let next = words_at(alloc, packed, *place)?;
+        lines.push(next)?;
+    }
+    Ok(lines)
+}
+
+fn opening_words(alloc: Global, packed: &PackedText) -> Result<LineWords, AllocError>
+    ensures { IfOk result (λ line. line ≡ opening_words (text_in packed.now)) }
+{
+    let text = line_in(alloc, packed, 0)?;
+    let words = words_of(alloc, "opening", text.as_slice())?;
+    Ok(LineWords {
+        line: 1,
+        words: Items::new(words),
+    })
+}
+
+fn words_at(alloc: Global, packed: &PackedText, place: usize) -> Result<LineWords, AllocError>
+    ensures { IfOk result (λ line. line ≡ words_at (text_in packed.now) place) }
+{
+    let line = line_of(place)?;
+    let words = record_words(alloc, packed, place)?;
+    Ok(LineWords {
+        line,
+        words: Items::new(words),
+    })
+}
+
+/// The words of the operation at a place.
+pub(crate) fn record_words(
+    alloc: Global,
+    packed: &PackedText,
+    place: usize,
+) -> Result<Vec<u64>, AllocError>
+    ensures { IfOk result (λ words. words.items ≡ record_words (text_in packed.now) place) }
+{
+    let line = line_of(place)?;
+    let text = line_in(alloc, packed, line - 1)?;
+    words_of(alloc, "record", text.as_slice())
+}
+
+/// The line with so many lines in front of it; an empty one behind the last.
+fn line_in(alloc: Global, packed: &PackedText, index: usize) -> Result<Vec<u8>, AllocError>
+    ensures { IfOk result (λ line. line.items ≡ line_in (text_in packed.now) index) }
+{
+    match nth_line(packed.codes.as_slice(), index) {
+        Some(own) => told_line(alloc, packed, own),
+        None => Ok(Vec::new(alloc)),
+    }
+}
+
+fn told_line(alloc: Global, packed: &PackedText, codes: &[u8]) -> Result<Vec<u8>, AllocError>
+    ensures { IfOk result (λ line. line.items ≡ told packed.now.packed codes.now) }
+{
+    let mut line = Vec::new(alloc);
+    packed.tell(&mut line, codes)?;
+    Ok(line)
+}
+
+fn nth_line(bytes: &[u8], index: usize) -> Option<&[u8]>
+    ensures { option_map (λ line. line.now) result ≡ slice_get (lines_of bytes.now) index }
+{
+    let mut rest = bytes;
+    let mut left = index;
+    'lines: while let Some((own, behind)) = split_line(rest) {
+        if left == 0 {
+            return Some(own);
+        }
+        left -= 1;
+        rest = behind;
+    }
+    None
+}
