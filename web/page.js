@@ -30,7 +30,7 @@ const MEANS = { "check": `It ${GIVES}`, "order": `Some order ${GIVES}`, "order -
 const ENDS = { 3: "Refused: nothing is said of its operations", 4: "Out of memory", 7: "No verdict" };
 const BOUNDS = { "64 MB": 2 ** 26, "256 MB": 2 ** 28, "1 GB": 2 ** 30, "4 GB": 2 ** 32, "12 GB": 12 * 2 ** 30 };
 // The regions of an answer whose numbers are lines, operations or entries of the order of the document.
-const NAMED = /\blines? \d+(?:(?:,| and| precedes) \d+)*|\boperations? \d+(?:(?: and| precedes) \d+)*|\bentry \d+|^(?:unlawful \w+|order:|writes:)(?: \d+)+/gim;
+const NAMED = /\blines? \d+(?:(?:,| and) \d+)*|\boperations? \d+(?: and \d+)*|\bentry \d+|^(?:unlawful \w+|order:|writes:)(?: \d+)+/gim;
 
 // -- the module and its worker --
 
@@ -198,15 +198,10 @@ function namesThese(first) {
   return numbers ? ` These are lines ${numbers.replace(/ (?=\d+$)/, " and ").replace(/(\d) (?=\d)/g, "$1, ")}.` : "";
 }
 
-// A picture's sentence, in which the operations that the document has lines of are called lines, as their numbers are.
-function ofLines(sentence) {
-  const isNamed = numbers => numbers.match(/\d+/g).every(it => state.named.includes(Number(it)));
-  const called = (all, numbers) => (isNamed(numbers) ? `line ${numbers}` : all);
-  const text = sentence.replace(/\boperation (\d+(?:(?: and| precedes) \d+)*)/g, called);
-  return text === sentence ? text : `${text} (lines by the document's key "lines")`;
-}
+// A picture's sentence. The lines that it names are those of the document's key `lines`.
+const ofLines = sentence => (/\bline \d/.test(sentence) ? `${sentence} (lines by the document's key "lines")` : sentence);
 
-// The sentence of an answer: the program's own, where it prints one, else that of the picture.
+// The sentence of an answer: the program's own, where it prints one, else that at the end of the picture.
 function sentenceOf(data, text, lines) {
   if (data.kind === "race") return `${text.trim()}. A race needs threads, which a page hasn't: ./fsr race runs it.`;
   if (data.status > 1) return data.fault ? `${text.trim()}. ${data.fault}` : text;
@@ -214,7 +209,7 @@ function sentenceOf(data, text, lines) {
   if (own) return own + namesThese(lines[0]);
   if (data.status === 0) return MEANS[data.command] || "";
   if (data.command === "order --small" && data.kind === "lines") return "";
-  const svg = data.picture && data.picture.of === "document" ? new TextDecoder().decode(data.picture.svg.subarray(0, 4000)) : "";
+  const svg = data.picture && data.picture.of === "document" ? new TextDecoder().decode(data.picture.svg.subarray(-400)) : "";
   const drawn = /<text class="z" x="8" y="24">([^<]*)/.exec(svg);
   return drawn ? ofLines(drawn[1].replace(/&lt;/g, "<").replace(/&gt;/g, ">").replace(/&amp;/g, "&")) : lines[0] || "";
 }

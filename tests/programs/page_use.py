@@ -273,7 +273,7 @@ class Use:
 
     def by_lines(self):
         """Of a document with `lines` the sentence names lines, and these lead to their operations. What is printed names places."""
-        crossed = "crossed: line 2 precedes 11 and 5 precedes 13:"
+        crossed = "crossed: line 2 precedes line 11 and line 5 precedes line 13:"
         stale = "stale: %s, of another record, precedes %s,"
         cases = (
             (SMALL, stale % ("line 2", "line 3"), {"2": 0, "3": 1}, "stale 0 1"),

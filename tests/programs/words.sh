@@ -367,7 +367,7 @@ if ! has_program picture; then
 else
     "$built/picture/out/picture" <"$room/small.json" >"$room/out" 2>"$room/err"
     status=$?
-    if [ "$status" = 1 ] && grep -q 'unlawful stale: operation 2' "$room/out" && grep -q '>read 3<' "$room/out"; then
+    if [ "$status" = 1 ] && grep -q 'unlawful stale: line 2' "$room/out" && grep -q '>read 3<' "$room/out"; then
         pass "$title"
     else
         fail "$title" "it ended with status $status: $(head -c 200 "$room/err")"

@@ -16,6 +16,8 @@ use Rattle.picture_shapes.specs.Scales.{far_of, x_of, y_of}
 use Rattle.picture_shapes.specs.declared.scale.Scale.{Scale}
 use Rattle.picture_shapes.specs.declared.shape.lanes.Lanes.{Lanes}
 use Rattle.picture_shapes.specs.declared.shape.lanes.Lanes.TheVariants.{Actors, Cell, Board}
+use Rattle.picture_shapes.specs.declared.shape.headline.Name.{Name}
+use Rattle.picture_shapes.specs.declared.shape.headline.Name.TheVariants.{AtPlace, OnLine}
 use Rattle.picture_shapes.specs.declared.shape.Bar.{Bar}
 use Rattle.picture_shapes.specs.declared.shape.Class.{Class}
 use Rattle.picture_shapes.specs.declared.shape.Class.TheVariants as class
@@ -85,7 +87,7 @@ abbrev pub is_of_one : Band → Bool
 is_of_one b = nat_eq b.now b.lo && nat_eq b.hi b.lo
 
 abbrev pub source_text : ℕ → List ℕ
-source_text source = if nat_eq source 0 then codes "the opening" else codes "of " ++ decimal source
+source_text source = if nat_eq source 0 then codes "the opening" else codes "of line " ++ decimal source
 
 unfoldable pub source_words : ℕ → ℕ → ℕ → List ℕ
 source_words x y source = words_head x y ++ source_text source ++ words_end
@@ -145,10 +147,15 @@ lawful_words = codes "<text x=\"8\" y=\"24\">lawful</text>\n"
 abbrev pub unlawful_head : List ℕ
 unlawful_head = codes "<text class=\"z\" x=\"8\" y=\"24\">unlawful "
 
+-- an operation is named by its line in a log, or else by its place
+abbrev pub name_text : Name → List ℕ
+name_text (OnLine line) = codes "line " ++ decimal line
+name_text (AtPlace place) = codes "operation " ++ decimal place
+
 -- ---- the frame
 
-abbrev pub actor_name : ℕ → List ℕ
-actor_name k = codes "actor " ++ decimal k
+abbrev pub who_name : ℕ → List ℕ
+who_name k = codes "who " ++ decimal k
 
 unfoldable pub cell_name : ℕ → ℕ → List ℕ
 cell_name writer reader = codes "cell (" ++ decimal writer ++ codes "," ++ decimal reader ++ codes ")"
@@ -164,9 +171,9 @@ board_cell_name n cell = cell_name (cell / max 1 (n - 1)) (other (cell / max 1 (
 -- of a cell's picture the first two lanes are its sides, and the others its slots; of a board's the
 -- first lanes are the processes
 abbrev pub lane_name : Lanes → ℕ → List ℕ
-lane_name Actors k = actor_name k
+lane_name Actors k = who_name k
 lane_name Cell k = side_name k
-lane_name (Board n) k = if nat_lt k n then actor_name k else board_cell_name n (k - n)
+lane_name (Board n) k = if nat_lt k n then who_name k else board_cell_name n (k - n)
 
 unfoldable pub lane_words : Lanes → ℕ → List ℕ
 lane_words lanes k = codes "\"/><text x=\"8\" y=\"" ++ decimal (y_of k + 48) ++ codes "\">"
@@ -194,6 +201,10 @@ rows_text (Board n) k = if nat_lt k n then [] else cell_rows k
 
 abbrev pub lane_text : Lanes → ℕ → ℕ → List ℕ
 lane_text lanes far k = lane_head lanes far k ++ rows_text lanes k
+
+-- what the numbers on the axis are
+abbrev pub axis_name : List ℕ
+axis_name = codes "<text class=\"a\" x=\"8\" y=\"62\">time</text>\n"
 
 -- a moment on the axis
 unfoldable pub tick_words : ℕ → ℕ → List ℕ

@@ -19,7 +19,10 @@ pub use looks::push_looks;
 pub use places::{actors_of, y_of};
 pub use scale::Scale;
 pub use shape::axis::{put_term, put_tick};
-pub use shape::headline::{put_first_words, put_last_words, put_long_words, put_words};
+pub use shape::headline::{
+    Name, put_first_words, put_last_words, put_long_named_words, put_long_words, put_name,
+    put_named_words, put_words,
+};
 pub use shape::labels::{put_kind_words, put_told_words};
 pub use shape::lanes::{Lanes, ROW_BAR, put_lane, put_row, row_y};
 pub use shape::points::{put_join, put_place, put_point};

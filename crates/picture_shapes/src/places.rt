@@ -1,17 +1,20 @@
 //! Where moments and lanes lie.
 
-ghost use Rattle.std.specs.Prelude.{◌≡◌, ◌<◌, ◌≤◌};
+ghost use Rattle.std.specs.Prelude.{◌≡◌, ◌<◌, ◌≤◌, length, max};
+ghost use Rattle.std.specs.Fmt.{decimal};
+ghost use Rattle.std.specs.List.{fold};
 ghost use Rattle.picture_shapes.specs.Scales.{actors_of, far_of, later_end, least_of, most_of, scale_of};
-ghost use Rattle.picture_shapes.specs.Scales.{extra_of, unit_in, x_of, y_of};
+ghost use Rattle.picture_shapes.specs.Scales.{extra_of, unit_in, wide_of, x_of, y_of};
 
 use crate::scale::Scale;
 use history_core::{Band, Op};
+use print_report::Line;
 
 /// The margin at the left.
 const LEFT: u64 = 96;
 
-/// The width of a column.
-const COLUMN: u64 = 32;
+/// The width of a column, where operations have no lines.
+const COLUMN: u8 = 32;
 
 /// The greatest number of columns.
 const MOST_COLUMNS: u64 = 100_000;
@@ -21,9 +24,6 @@ const FEW_COLUMNS: u64 = 20_000;
 
 /// What lies behind the last moment.
 const BEHIND: u64 = 96;
-
-/// The least width of a picture, with room for a line of text.
-const WIDE: u64 = 800;
 
 /// The margin at the top.
 const TOP: u64 = 84;
@@ -35,13 +35,20 @@ pub const LANE: u64 = 64;
 const MOST_LANE: usize = 63;
 
 impl Scale {
-    pub fn of(ops: &[Op<Band>]) -> Scale
-        ensures { result ≡ scale_of ops.now }
+    /// The scale of a picture of these operations, which stand on these lines, if they are known.
+    pub fn of(ops: &[Op<Band>], lines: &[usize], room: u16) -> Scale
+        ensures { result ≡ scale_of ops.now lines.now room }
     {
         let least = least_of(ops);
         let most = most_of(ops);
         let extra = extra_of(most.saturating_sub(least));
-        Scale { least, most, extra }
+        Scale {
+            least,
+            most,
+            extra,
+            wide: wide_of(lines),
+            room,
+        }
     }
 
     /// The moments of a column.
@@ -54,16 +61,17 @@ impl Scale {
 
     pub fn x_of(&self, moment: u64) -> u64
         ensures x { result ≡ x_of self.now moment }
-        ensures most { result ≤ 3200096 }
+        ensures most { result ≤ 25500096 }
     {
-        LEFT + COLUMN * MOST_COLUMNS.min(moment.saturating_sub(self.least) / self.unit())
+        let column = MOST_COLUMNS.min(moment.saturating_sub(self.least) / self.unit());
+        LEFT + self.wide as u64 * column
     }
 
     pub fn far(&self) -> u64
         ensures x { result ≡ far_of self.now }
-        ensures most { result ≤ 3200192 }
+        ensures most { result ≤ 25500192 }
     {
-        WIDE.max(self.x_of(self.most) + BEHIND)
+        (self.room as u64).max(self.x_of(self.most) + BEHIND)
     }
 }
 
@@ -104,6 +112,33 @@ fn extra_of(span: u64) -> u64
     } else {
         span / FEW_COLUMNS
     }
+}
+
+/// The width of a column: two of them hold the words above a bar, with the longest line.
+fn wide_of(lines: &[usize]) -> u8
+    ensures { result ≡ wide_of lines.now }
+{
+    if lines.is_empty() {
+        COLUMN
+    } else {
+        36 + 3 * digits_of(greatest(lines) as u64)
+    }
+}
+
+fn greatest(lines: &[usize]) -> usize
+    ensures { result ≡ fold (λ n line. max n line) 0 lines.now }
+{
+    lines.iter().fold(0, |n, line| n.max(*line))
+}
+
+/// How many digits a number has.
+fn digits_of(number: u64) -> u8
+    ensures digits { result ≡ length (decimal number) }
+    ensures most { result ≤ 20 }
+{
+    let mut line = Line::new();
+    line.put_number(number);
+    line.as_bytes().len() as u8
 }
 
 pub fn actors_of(ops: &[Op<Band>]) -> usize

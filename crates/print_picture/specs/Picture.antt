@@ -2,7 +2,7 @@
 -- the marks of what breaks the order or of why there is none, and the order's joins and points.
 use Rattle.std.specs.Prelude.{ℕ, ◌+◌, ◌-◌, ◌*◌, ◌/◌, ◌^◌, ◌++◌, min, List, [], ◌∷◌, codes, Bool, true, false}
 use Rattle.std.specs.Prelude.{Option, None, Some, slice_get}
-use Rattle.std.specs.Prelude.{zero, suc, nat_le, length, not, ◌&&◌, if◌then◌else◌}
+use Rattle.std.specs.Prelude.{zero, suc, nat_eq, nat_le, length, not, ◌&&◌, if◌then◌else◌}
 use Rattle.std.specs.Fmt.{decimal}
 use Rattle.std.specs.List.{flat_map, list_any}
 use Rattle.std.specs.Option.{unwrap_or}
@@ -21,12 +21,14 @@ use Rattle.print_report.specs.Lines.{entry_at}
 use Rattle.matrix_core.specs.declared.schedule.MatrixTerm.{MatrixTerm}
 use Rattle.picture_shapes.specs.Looks.{looks}
 use Rattle.picture_shapes.specs.Scales.{actors_of, far_of, scale_of, unit_in, x_of, y_of}
-use Rattle.picture_shapes.specs.Shapes.{bar_of, bar_text, class_of, end_of, join_text, lane_text}
-use Rattle.picture_shapes.specs.Shapes.{lawful_words, op_shapes, place_text}
+use Rattle.picture_shapes.specs.Shapes.{axis_name, bar_of, bar_text, class_of, end_of, join_text, lane_text}
+use Rattle.picture_shapes.specs.Shapes.{lawful_words, name_text, op_shapes, place_text}
 use Rattle.picture_shapes.specs.Shapes.{row_y, point_text, term_text, tick_text, unlawful_head, words_end}
 use Rattle.picture_shapes.specs.declared.scale.Scale.{Scale}
 use Rattle.picture_shapes.specs.declared.shape.lanes.Lanes.{Lanes}
 use Rattle.picture_shapes.specs.declared.shape.lanes.Lanes.TheVariants.{Actors, Cell, Board}
+use Rattle.picture_shapes.specs.declared.shape.headline.Name.{Name}
+use Rattle.picture_shapes.specs.declared.shape.headline.Name.TheVariants.{AtPlace, OnLine}
 use Rattle.picture_shapes.specs.declared.shape.Bar.{Bar}
 use Rattle.picture_shapes.specs.declared.shape.Class.TheVariants as class
 use Rattle.picture_shapes.specs.declared.shape.Join.TheVariants.{Answers, Breaks, Precedes}
@@ -178,31 +180,50 @@ break_text s ops order points (Limit entry writes) = mark_text s (listed_at ops 
 
 -- ---- why no order is lawful
 
-unfoldable pub precedes_words : ℕ → ℕ → List ℕ
-precedes_words m n = decimal m ++ codes " precedes " ++ decimal n
+-- the operation at a place is named by its line if it has one
+abbrev pub name_by : Option ℕ → ℕ → Name
+name_by None place = AtPlace place
+name_by (Some line) place = OnLine line
 
-unfoldable pub both_words : ℕ → ℕ → ℕ → ℕ → List ℕ
+abbrev pub name_of : List ℕ → ℕ → Name
+name_of lines place = name_by (slice_get lines place) place
+
+unfoldable pub precedes_words : Name → Name → List ℕ
+precedes_words m n = name_text m ++ codes " precedes " ++ name_text n
+
+unfoldable pub both_words : Name → Name → Name → Name → List ℕ
 both_words a b c d = precedes_words a b ++ codes " and " ++ precedes_words c d
 
-unfoldable pub crossed_words : ℕ → ℕ → ℕ → ℕ → List ℕ
-crossed_words a b c d =
-    unlawful_head ++ codes "crossed: operation " ++ both_words a b c d
+-- four operations of two records
+unfoldable pub pairs_words : Name → Name → Name → Name → List ℕ
+pairs_words a b c d =
+    unlawful_head ++ codes "crossed: " ++ both_words a b c d
     ++ codes ": each of two records has to stand before the other" ++ words_end
 
-unfoldable pub reason_words : Reason → List ℕ
-reason_words (reason.Unwritten read) =
-    unlawful_head ++ codes "unwritten: operation " ++ decimal read
+-- three operations, one of another record between two of one
+unfoldable pub between_words : Name → Name → Name → List ℕ
+between_words a b d =
+    unlawful_head ++ codes "crossed: " ++ precedes_words a b ++ codes ", and that precedes " ++ name_text d
+    ++ codes ", which has the record of " ++ name_text a ++ words_end
+
+abbrev pub crossed_words : List ℕ → ℕ → ℕ → ℕ → ℕ → List ℕ
+crossed_words lines a b c d = if nat_eq b c
+    then between_words (name_of lines a) (name_of lines b) (name_of lines d)
+    else pairs_words (name_of lines a) (name_of lines b) (name_of lines c) (name_of lines d)
+
+unfoldable pub reason_words : List ℕ → Reason → List ℕ
+reason_words lines (reason.Unwritten read) =
+    unlawful_head ++ codes "unwritten: " ++ name_text (name_of lines read)
     ++ codes " has a record that is neither the opening nor written" ++ words_end
-reason_words (reason.Early read write) =
-    unlawful_head ++ codes "early: operation " ++ decimal read ++ codes " precedes operation " ++ decimal write
-    ++ codes ", which writes its record" ++ words_end
-reason_words (reason.Stale before read) =
-    unlawful_head ++ codes "stale: operation " ++ decimal before
-    ++ codes ", of another record, precedes operation " ++ decimal read
-    ++ codes ", which gave the opening" ++ words_end
-reason_words (reason.Crossed a b c d) = crossed_words a b c d
-reason_words (reason.Limit refused) =
-    unlawful_head ++ codes "limit: in each order operation " ++ decimal refused
+reason_words lines (reason.Early read write) =
+    unlawful_head ++ codes "early: " ++ name_text (name_of lines read) ++ codes " precedes "
+    ++ name_text (name_of lines write) ++ codes ", which writes its record" ++ words_end
+reason_words lines (reason.Stale before read) =
+    unlawful_head ++ codes "stale: " ++ name_text (name_of lines before) ++ codes ", of another record, precedes "
+    ++ name_text (name_of lines read) ++ codes ", which gave the opening" ++ words_end
+reason_words lines (reason.Crossed a b c d) = crossed_words lines a b c d
+reason_words lines (reason.Limit refused) =
+    unlawful_head ++ codes "limit: in each order " ++ name_text (name_of lines refused)
     ++ codes ", or a refused one before it, has too few writes before it" ++ words_end
 
 -- where an operation has its place written, begins, and ends
@@ -215,7 +236,7 @@ begin_spot s op = record { x = x_of s op.starts; y = y_of op.who + 44 }
 abbrev pub end_spot : Scale → Op Band → Spot
 end_spot s op = record { x = end_of s op.ends; y = y_of op.who + 44 }
 
--- the number by which the operation at a place is named: its line if it has one, else the place
+-- the number of the operation at a place: its line if it has one, else the place
 abbrev pub number_of : List ℕ → ℕ → ℕ
 number_of lines place = unwrap_or (slice_get lines place) place
 
@@ -257,19 +278,10 @@ reason_arrows s ops (reason.Limit refused) = []
 
 -- ---- what is said of the history
 
--- a reason by the numbers of its operations
-abbrev pub numbered : List ℕ → Reason → Reason
-numbered lines (reason.Unwritten read) = reason.Unwritten (number_of lines read)
-numbered lines (reason.Early read write) = reason.Early (number_of lines read) (number_of lines write)
-numbered lines (reason.Stale before read) = reason.Stale (number_of lines before) (number_of lines read)
-numbered lines (reason.Crossed a b c d) =
-    reason.Crossed (number_of lines a) (number_of lines b) (number_of lines c) (number_of lines d)
-numbered lines (reason.Limit refused) = reason.Limit (number_of lines refused)
-
 abbrev pub finding_words : List ℕ → Finding → List ℕ
 finding_words lines Lawful = lawful_words
 finding_words lines (Broken broken) = break_words broken
-finding_words lines (NoOrder why) = reason_words (numbered lines why)
+finding_words lines (NoOrder why) = reason_words lines why
 
 abbrev pub finding_text : Scale → List ℕ → List (Op Band) → List ℕ → List ℕ → Finding → List ℕ
 finding_text s lines ops order points Lawful = []
@@ -311,8 +323,8 @@ shown_terms (Board n) ops terms = terms
 
 unfoldable pub frame_text : Lanes → List ℕ → Scale → ℕ → ℕ → List (Op Band) → List Term → List ℕ
 frame_text lanes moments s count high ops terms =
-    head_text (far_of s) high ++ lanes_text lanes (far_of s) count ++ ticks_text moments s high (ticks_of s)
-    ++ terms_text s high ops 1 terms
+    head_text (far_of s) high ++ lanes_text lanes (far_of s) count ++ axis_name
+    ++ ticks_text moments s high (ticks_of s) ++ terms_text s high ops 1 terms
 
 unfoldable pub order_shapes : Scale → List (Op Band) → List ℕ → List ℕ → List ℕ
 order_shapes s ops order points = joins_text s ops points 0 None order ++ points_text s ops points 0 order
@@ -320,12 +332,17 @@ order_shapes s ops order points = joins_text s ops points 0 None order ++ points
 unfoldable pub end_text : List ℕ → Finding → List ℕ
 end_text lines finding = finding_words lines finding ++ codes "</svg>\n"
 
+-- the least width, with room for the line at the top: that of `crossed` is the longest
+abbrev pub room_of : Finding → ℕ
+room_of (NoOrder (reason.Crossed a b c d)) = 1024
+room_of finding = 800
+
 abbrev pub high_of : ℕ → ℕ
 high_of lanes = y_of lanes + 24
 
 unfoldable pub picture_of : Scene → List ℕ
 picture_of c =
-    let s = scale_of c.history.ops in
+    let s = scale_of c.history.ops c.lines (room_of c.finding) in
     let count = lanes_of c.lanes c.history.ops in
     frame_text c.lanes c.moments s count (high_of count) c.history.ops
     (shown_terms c.lanes c.history.ops c.history.terms)

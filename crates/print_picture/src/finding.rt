@@ -4,7 +4,7 @@ ghost use Rattle.std.specs.Prelude.{◌≡◌, ◌++◌, OnOk, length};
 ghost use Rattle.print_picture.specs.Picture.{arrows_text, end_text, finding_text, finding_words};
 
 use crate::breaking::{push_break, put_break_words};
-use crate::reasons::{numbered, push_reason, push_reason_arrows, put_reason_words};
+use crate::reasons::{push_reason, push_reason_arrows, put_reason_words};
 use crate::scene::Finding;
 use history_core::{Band, Op};
 use picture_shapes::Scale;
@@ -64,6 +64,6 @@ fn put_finding_words(line: &mut Line, lines: &[usize], finding: Finding)
     match finding {
         Finding::Lawful => line.put(b"<text x=\"8\" y=\"24\">lawful</text>\n"),
         Finding::Broken(broken) => put_break_words(line, broken),
-        Finding::NoOrder(reason) => put_reason_words(line, numbered(lines, reason)),
+        Finding::NoOrder(reason) => put_reason_words(line, lines, reason),
     }
 }

@@ -28,6 +28,7 @@ pub fn push_frame(
     let far = scale.far();
     push_head(text, far, high)?;
     push_lanes(text, lanes, far, count)?;
+    text.extend_from_slice(b"<text class=\"a\" x=\"8\" y=\"62\">time</text>\n")?;
     push_ticks(text, moments, scale, high, ticks_of(scale))?;
     push_terms(text, scale, high, ops, terms)
 }

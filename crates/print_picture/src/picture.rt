@@ -4,14 +4,14 @@ ghost use Rattle.std.specs.Prelude.{◌≡◌, [], IfOk};
 ghost use Rattle.std.specs.List.{list_any};
 ghost use Rattle.history_core.specs.declared.band.Band.{Band};
 ghost use Rattle.history_core.specs.declared.history.Op.{Op};
-ghost use Rattle.print_picture.specs.Picture.{high_of, is_refused, picture_of, shown_terms, told_terms};
+ghost use Rattle.print_picture.specs.Picture.{high_of, is_refused, picture_of, room_of, shown_terms, told_terms};
 
 use crate::finding::{push_arrows, push_end, push_finding};
 use crate::frame::push_frame;
 use crate::lanes::lanes_of;
 use crate::marks::{push_ops, push_order, push_visits};
-use crate::scene::Scene;
-use history_core::{Band, Kind, Op, Term};
+use crate::scene::{Finding, Scene};
+use history_core::{Band, Kind, Op, Reason, Term};
 use picture_shapes::{Lanes, Scale, y_of};
 use std::alloc::{AllocError, Global};
 
@@ -28,7 +28,7 @@ pub fn picture_text(alloc: Global, scene: &Scene) -> Result<Vec<u8>, AllocError>
     let order = scene.order.as_slice();
     let points = scene.points.as_slice();
     let terms = shown_terms(scene.lanes, ops, scene.history.terms.as_slice());
-    let scale = Scale::of(ops);
+    let scale = Scale::of(ops, lines, room_of(scene.finding));
     let count = lanes_of(scene.lanes, ops);
     let mut text = with_room(alloc, ops.len())?;
     push_frame(
@@ -88,6 +88,16 @@ fn is_refused(kind: Kind) -> bool
     ensures { result ≡ is_refused kind }
 {
     kind == Kind::Refused
+}
+
+/// The least width, with room for the line at the top.
+fn room_of(finding: Finding) -> u16
+    ensures { result ≡ room_of finding }
+{
+    match finding {
+        Finding::NoOrder(Reason::Crossed { .. }) => 1024,
+        _ => 800,
+    }
 }
 
 fn high_of(lanes: usize) -> u64

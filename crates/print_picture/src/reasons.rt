@@ -2,16 +2,16 @@
 //! another, and a line of text.
 
 ghost use Rattle.std.specs.Prelude.{◌≡◌, ◌+◌, ◌≤◌, ◌++◌, OnOk, length, slice_get};
-ghost use Rattle.print_picture.specs.Picture.{arrow_between, arrow_text, begin_spot, both_words};
-ghost use Rattle.print_picture.specs.Picture.{crossed_words, end_spot, named_text, number_of, numbered, one_text};
-ghost use Rattle.print_picture.specs.Picture.{place_spot, precedence_text};
+ghost use Rattle.print_picture.specs.Picture.{arrow_between, arrow_text, begin_spot, between_words, both_words};
+ghost use Rattle.print_picture.specs.Picture.{crossed_words, end_spot, name_of, named_text, number_of, one_text};
+ghost use Rattle.print_picture.specs.Picture.{pairs_words, place_spot, precedence_text};
 ghost use Rattle.print_picture.specs.Picture.{precedes_words, reason_arrows, reason_text, reason_words};
 
 use crate::marks::{line_at, op_at};
 use history_core::{Band, Op, Reason};
 use picture_shapes::{
-    Class, Join, Scale, Spot, bar_of, end_of, put_bar, put_first_words, put_join, put_last_words,
-    put_long_words, put_place, put_words, y_of,
+    Class, Join, Name, Scale, Spot, bar_of, end_of, put_bar, put_first_words, put_join,
+    put_last_words, put_long_named_words, put_name, put_named_words, put_place, y_of,
 };
 use print_report::Line;
 use std::alloc::AllocError;
@@ -66,39 +66,11 @@ fn push_one(
     push_named(text, scale, number_of(lines, place), op_at(ops, place))
 }
 
-/// The number by which the operation at a place is named.
+/// The number of the operation at a place: its line if it has one.
 fn number_of(lines: &[usize], place: usize) -> usize
     ensures { result ≡ number_of lines.now place }
 {
     line_at(lines, place).unwrap_or(place)
-}
-
-/// A reason by the numbers of its operations.
-pub fn numbered(lines: &[usize], reason: Reason) -> Reason
-    ensures { result ≡ numbered lines.now reason }
-{
-    match reason {
-        Reason::Unwritten { read } => Reason::Unwritten {
-            read: number_of(lines, read),
-        },
-        Reason::Early { read, write } => Reason::Early {
-            read: number_of(lines, read),
-            write: number_of(lines, write),
-        },
-        Reason::Stale { before, read } => Reason::Stale {
-            before: number_of(lines, before),
-            read: number_of(lines, read),
-        },
-        Reason::Crossed { a, b, c, d } => Reason::Crossed {
-            a: number_of(lines, a),
-            b: number_of(lines, b),
-            c: number_of(lines, c),
-            d: number_of(lines, d),
-        },
-        Reason::Limit { refused } => Reason::Limit {
-            refused: number_of(lines, refused),
-        },
-    }
 }
 
 /// The mark of an operation, with its number.
@@ -211,64 +183,97 @@ fn end_spot(scale: &Scale, op: &Op<Band>) -> Spot
 }
 
 #[tactic(auto, unfolding(crate::specs::Picture::reason_words), using(std::proofs::Common::append_assoc))]
-pub fn put_reason_words(line: &mut Line, reason: Reason)
+pub fn put_reason_words(line: &mut Line, lines: &[usize], reason: Reason)
     requires { length line.old ≡ 0 }
-    ensures { line.new ≡ reason_words reason ++ line.old }
+    ensures { line.new ≡ reason_words lines.now reason ++ line.old }
 {
     match reason {
-        Reason::Unwritten { read } => put_words(
+        Reason::Unwritten { read } => put_named_words(
             line,
-            b"unwritten: operation ",
-            read as u64,
+            b"unwritten: ",
+            name_of(lines, read),
             b" has a record that is neither the opening nor written",
         ),
-        Reason::Early { read, write } => {
-            put_long_words(
-                line,
-                b"early: operation ",
-                read as u64,
-                b" precedes operation ",
-                write as u64,
-                b", which writes its record",
-            )
-        }
-        Reason::Stale { before, read } => {
-            put_long_words(
-                line,
-                b"stale: operation ",
-                before as u64,
-                b", of another record, precedes operation ",
-                read as u64,
-                b", which gave the opening",
-            )
-        }
-        Reason::Crossed { a, b, c, d } => put_crossed_words(line, a, b, c, d),
-        Reason::Limit { refused } => {
-            put_words(
-                line,
-                b"limit: in each order operation ",
-                refused as u64,
-                b", or a refused one before it, has too few writes before it",
-            )
-        }
+        Reason::Early { read, write } => put_long_named_words(
+            line,
+            b"early: ",
+            name_of(lines, read),
+            b" precedes ",
+            name_of(lines, write),
+            b", which writes its record",
+        ),
+        Reason::Stale { before, read } => put_long_named_words(
+            line,
+            b"stale: ",
+            name_of(lines, before),
+            b", of another record, precedes ",
+            name_of(lines, read),
+            b", which gave the opening",
+        ),
+        Reason::Crossed { a, b, c, d } => put_crossed_words(line, lines, a, b, c, d),
+        Reason::Limit { refused } => put_named_words(
+            line,
+            b"limit: in each order ",
+            name_of(lines, refused),
+            b", or a refused one before it, has too few writes before it",
+        ),
     }
 }
 
-#[tactic(auto, unfolding(crate::specs::Picture::crossed_words), using(std::proofs::Common::append_assoc))]
-fn put_crossed_words(line: &mut Line, a: usize, b: usize, c: usize, d: usize)
+/// How the operation at a place is named: by its line if it has one.
+fn name_of(lines: &[usize], place: usize) -> Name
+    ensures { result ≡ name_of lines.now place }
+{
+    match line_at(lines, place) {
+        Some(line) => Name::OnLine(line),
+        None => Name::AtPlace(place),
+    }
+}
+
+fn put_crossed_words(line: &mut Line, lines: &[usize], a: usize, b: usize, c: usize, d: usize)
     requires { length line.old ≡ 0 }
-    ensures { line.new ≡ crossed_words a b c d ++ line.old }
+    ensures { line.new ≡ crossed_words lines.now a b c d ++ line.old }
+{
+    let first = name_of(lines, a);
+    let second = name_of(lines, b);
+    let last = name_of(lines, d);
+    if b == c {
+        put_between_words(line, first, second, last)
+    } else {
+        put_pairs_words(line, first, second, name_of(lines, c), last)
+    }
+}
+
+/// One operation between two of one record.
+#[tactic(auto, unfolding(crate::specs::Picture::between_words), using(std::proofs::Common::append_assoc))]
+fn put_between_words(line: &mut Line, a: Name, b: Name, d: Name)
+    requires { length line.old ≡ 0 }
+    ensures { line.new ≡ between_words a b d ++ line.old }
+{
+    line.put(b"</text>\n");
+    put_name(line, a);
+    line.put(b", which has the record of ");
+    put_name(line, d);
+    line.put(b", and that precedes ");
+    put_precedes(line, a, b);
+    put_first_words(line, b"crossed: ");
+}
+
+#[tactic(auto, unfolding(crate::specs::Picture::pairs_words), using(std::proofs::Common::append_assoc))]
+fn put_pairs_words(line: &mut Line, a: Name, b: Name, c: Name, d: Name)
+    requires { length line.old ≡ 0 }
+    ensures { line.new ≡ pairs_words a b c d ++ line.old }
 {
     put_last_words(line, b": each of two records has to stand before the other");
     put_both(line, a, b, c, d);
-    put_first_words(line, b"crossed: operation ");
+    put_first_words(line, b"crossed: ");
 }
 
 #[tactic(auto, unfolding(crate::specs::Picture::both_words), using(std::proofs::Common::append_assoc))]
-fn put_both(line: &mut Line, a: usize, b: usize, c: usize, d: usize)
-    requires { length line.old + 105 ≤ 256 }
+fn put_both(line: &mut Line, a: Name, b: Name, c: Name, d: Name)
+    requires { length line.old + 145 ≤ 256 }
     ensures text { line.new ≡ both_words a b c d ++ line.old }
-    ensures len { length line.new ≤ length line.old + 105 }
+    ensures len { length line.new ≤ length line.old + 145 }
 {
     put_precedes(line, c, d);
     line.put(b" and ");
@@ -276,12 +281,12 @@ fn put_both(line: &mut Line, a: usize, b: usize, c: usize, d: usize)
 }
 
 #[tactic(auto, unfolding(crate::specs::Picture::precedes_words), using(std::proofs::Common::append_assoc))]
-fn put_precedes(line: &mut Line, m: usize, n: usize)
-    requires { length line.old + 50 ≤ 256 }
+fn put_precedes(line: &mut Line, m: Name, n: Name)
+    requires { length line.old + 70 ≤ 256 }
     ensures text { line.new ≡ precedes_words m n ++ line.old }
-    ensures len { length line.new ≤ length line.old + 50 }
+    ensures len { length line.new ≤ length line.old + 70 }
 {
-    line.put_number(n as u64);
+    put_name(line, n);
     line.put(b" precedes ");
-    line.put_number(m as u64);
+    put_name(line, m);
 }

@@ -125,7 +125,7 @@ fn put_source(text: &mut Line, source: u64)
         text.put(b"the opening");
     } else {
         text.put_number(source);
-        text.put(b"of ");
+        text.put(b"of line ");
     }
 }
 

@@ -2,8 +2,8 @@
 
 ghost use Rattle.std.specs.Prelude.{◌≡◌, ◌+◌, ◌-◌, ◌<◌, ◌≤◌, ◌^◌, ◌++◌, length};
 ghost use Rattle.history_core.specs.Others.{other};
-ghost use Rattle.picture_shapes.specs.Shapes.{actor_name, cell_name, lane_head, lane_name, lane_words};
-ghost use Rattle.picture_shapes.specs.Shapes.{row_text, row_y, side_name};
+ghost use Rattle.picture_shapes.specs.Shapes.{cell_name, lane_head, lane_name, lane_words};
+ghost use Rattle.picture_shapes.specs.Shapes.{row_text, row_y, side_name, who_name};
 
 use crate::places::y_of;
 use print_report::Line;
@@ -59,9 +59,9 @@ fn put_lane_name(line: &mut Line, lanes: Lanes, lane: usize)
     ensures len { length line.new ≤ length line.old + 50 }
 {
     match lanes {
-        Lanes::Actors => put_actor_name(line, lane),
+        Lanes::Actors => put_who_name(line, lane),
         Lanes::Cell => put_side_name(line, lane),
-        Lanes::Board { processes } if lane < processes => put_actor_name(line, lane),
+        Lanes::Board { processes } if lane < processes => put_who_name(line, lane),
         Lanes::Board { processes } => {
             let seats = processes.saturating_sub(1).max(1);
             let cell = lane.saturating_sub(processes);
@@ -80,13 +80,13 @@ fn reader_of(writer: usize, seat: usize) -> usize
 }
 
 #[tactic(auto, using(std::proofs::Common::append_assoc))]
-fn put_actor_name(line: &mut Line, lane: usize)
+fn put_who_name(line: &mut Line, lane: usize)
     requires { length line.old + 50 ≤ 256 }
-    ensures text { line.new ≡ actor_name lane ++ line.old }
+    ensures text { line.new ≡ who_name lane ++ line.old }
     ensures len { length line.new ≤ length line.old + 50 }
 {
     line.put_number(lane as u64);
-    line.put(b"actor ");
+    line.put(b"who ");
 }
 
 #[tactic(auto, unfolding(crate::specs::Shapes::cell_name), using(std::proofs::Common::append_assoc))]
