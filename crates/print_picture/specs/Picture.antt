@@ -201,10 +201,12 @@ pairs_words a b c d =
     ++ codes ": each of two records has to stand before the other" ++ words_end
 
 -- three operations, one of another record between two of one
+unfoldable pub behind_words : Name → Name → List ℕ
+behind_words a d =
+    codes ", and that precedes " ++ name_text d ++ codes ", which has the record of " ++ name_text a ++ words_end
+
 unfoldable pub between_words : Name → Name → Name → List ℕ
-between_words a b d =
-    unlawful_head ++ codes "crossed: " ++ precedes_words a b ++ codes ", and that precedes " ++ name_text d
-    ++ codes ", which has the record of " ++ name_text a ++ words_end
+between_words a b d = unlawful_head ++ codes "crossed: " ++ precedes_words a b ++ behind_words a d
 
 abbrev pub crossed_words : List ℕ → ℕ → ℕ → ℕ → ℕ → List ℕ
 crossed_words lines a b c d = if nat_eq b c

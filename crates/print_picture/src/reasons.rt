@@ -2,8 +2,8 @@
 //! another, and a line of text.
 
 ghost use Rattle.std.specs.Prelude.{◌≡◌, ◌+◌, ◌≤◌, ◌++◌, OnOk, length, slice_get};
-ghost use Rattle.print_picture.specs.Picture.{arrow_between, arrow_text, begin_spot, between_words, both_words};
-ghost use Rattle.print_picture.specs.Picture.{crossed_words, end_spot, name_of, named_text, number_of, one_text};
+ghost use Rattle.print_picture.specs.Picture.{arrow_between, arrow_text, begin_spot, behind_words, between_words};
+ghost use Rattle.print_picture.specs.Picture.{both_words, crossed_words, end_spot, name_of, named_text, number_of, one_text};
 ghost use Rattle.print_picture.specs.Picture.{pairs_words, place_spot, precedence_text};
 ghost use Rattle.print_picture.specs.Picture.{precedes_words, reason_arrows, reason_text, reason_words};
 
@@ -250,13 +250,22 @@ fn put_between_words(line: &mut Line, a: Name, b: Name, d: Name)
     requires { length line.old ≡ 0 }
     ensures { line.new ≡ between_words a b d ++ line.old }
 {
+    put_behind_words(line, a, d);
+    put_precedes(line, a, b);
+    put_first_words(line, b"crossed: ");
+}
+
+#[tactic(auto, unfolding(crate::specs::Picture::behind_words), using(std::proofs::Common::append_assoc))]
+fn put_behind_words(line: &mut Line, a: Name, d: Name)
+    requires { length line.old ≡ 0 }
+    ensures text { line.new ≡ behind_words a d ++ line.old }
+    ensures len { length line.new ≤ length line.old + 114 }
+{
     line.put(b"</text>\n");
     put_name(line, a);
     line.put(b", which has the record of ");
     put_name(line, d);
     line.put(b", and that precedes ");
-    put_precedes(line, a, b);
-    put_first_words(line, b"crossed: ");
 }
 
 #[tactic(auto, unfolding(crate::specs::Picture::pairs_words), using(std::proofs::Common::append_assoc))]
