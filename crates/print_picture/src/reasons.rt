@@ -3,8 +3,8 @@
 
 ghost use Rattle.std.specs.Prelude.{◌≡◌, ◌+◌, ◌≤◌, ◌++◌, OnOk, length, slice_get};
 ghost use Rattle.print_picture.specs.Picture.{arrow_between, arrow_text, begin_spot, behind_words, between_words};
-ghost use Rattle.print_picture.specs.Picture.{both_words, crossed_words, end_spot, name_of, named_text, number_of, one_text};
-ghost use Rattle.print_picture.specs.Picture.{pairs_words, place_spot, precedence_text};
+ghost use Rattle.print_picture.specs.Picture.{both_words, crossed_words, end_spot, name_of, named_text, number_of};
+ghost use Rattle.print_picture.specs.Picture.{one_text, pairs_words, place_spot, precedence_text};
 ghost use Rattle.print_picture.specs.Picture.{precedes_words, reason_arrows, reason_text, reason_words};
 
 use crate::marks::{line_at, op_at};
