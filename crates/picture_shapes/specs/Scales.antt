@@ -41,8 +41,8 @@ most_of ops = fold (λ n o. later_end (max n o.starts) o.ends) 0 ops
 abbrev pub extra_of : ℕ → ℕ
 extra_of span = if nat_le span 100000 then 0 else span / 20000
 
--- the width of a column: where operations have lines, two columns hold the words above a bar, `the opening` or `refused`
--- and the longest line, of 6.7 pixels a letter
+-- the width of a column: where operations have lines, two columns hold the words above a bar, `the opening` or
+-- `refused` and the longest line, of 6.7 pixels a letter
 abbrev pub wide_of : List ℕ → ℕ
 wide_of lines = if nat_eq (length lines) 0 then 32 else 36 + 3 * length (decimal (fold (λ n line. max n line) 0 lines))
 
