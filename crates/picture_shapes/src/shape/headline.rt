@@ -6,7 +6,7 @@ ghost use Rattle.picture_shapes.specs.Shapes.{name_text, unlawful_head, words_en
 use print_report::Line;
 
 /// How an operation is named.
-#[derive(Clone, Copy, Debug, PartialEq, Eq)]
+#[derive(Clone, Copy)]
 pub enum Name {
     /// By its line in a log.
     OnLine(usize),
