@@ -317,7 +317,8 @@ ends_fsr 0 out order "$room/two.jsonl"
 } >"$room/wanted"
 ends_fsr 1 out order "$room/torn.jsonl"
 
-# Nobody wrote the record of line 4. The opening and line 2 have its first word, line 3 its third, and none its second; behind "x" stands none.
+# Nobody wrote the record of line 4. Line 2 has its first word, line 3 its third, and none its second; behind "x" stands none. The opening
+# has its first word too, and line 4 began behind the end of a write.
 cat >"$room/words.jsonl" <<'LOG'
 {"kind":"lines","opening":[0,9],"words":[5,0,0]}
 {"who":0,"kind":"write","begin":1,"end":2,"record":[1,1],"words":[5,1,1]}
@@ -329,10 +330,7 @@ LOG
     awk '{ print "line " NR ": " $0 }' "$room/words.jsonl"
     echo 'Line 4 gave a record that is neither the opening nor written.'
     echo 'Lines of the writes that it could see: 2 3.'
-    echo 'Of its words the opening has 5.'
-    echo 'Of its words line 2 has 5.'
-    echo 'Of its words line 3 has 2.'
-    echo 'Of its words no other line above has 3.'
+    echo 'Its words: 5 of line 2; 3 of none of these; 2 of line 3.'
     echo '3 operations, 0 unfinished, 4 records, 1 of them read; no last line `done`'
 } >"$room/wanted"
 ends_fsr 1 out order "$room/words.jsonl"

@@ -11,10 +11,11 @@ use Rattle.history_core.specs.declared.thinned.LogAnswer.TheVariants.{Lawful, Un
 use Rattle.history_core.specs.declared.thinned.Thinned.{Thinned}
 use Rattle.text_lines.specs.Splits.{lines_of}
 use Rattle.text_lines.specs.Places.{line_at}
+use Rattle.reason_sentences.specs.Beside.{place_at}
 use Rattle.reason_sentences.specs.KeptAt.{is_item, kept_at}
 use Rattle.reason_sentences.specs.Numbers.{number_text}
-use Rattle.reason_sentences.specs.Seen.{could_see, most_seen}
-use Rattle.reason_sentences.specs.Sentences.{place_at, sentence_text}
+use Rattle.reason_sentences.specs.Seen.{could_see, most_seen, sees_opening}
+use Rattle.reason_sentences.specs.Sentences.{sentence_text}
 use Rattle.record_words.specs.Origins.{origins_text}
 use Rattle.print_reasons.specs.Named.{in_kept, is_named, shown_of}
 
@@ -89,9 +90,14 @@ abbrev pub seen_places : Thinned → ℕ → List ℕ
 seen_places thinned read =
     map (place_at thinned.places) (take most_seen (could_see thinned.history.ops (kept_at thinned.places read)))
 
--- where an operation gave a record that nobody wrote, of which of these lines its words are
+-- of which of these lines the words are that the operation gave, and of the opening if it could see that
+abbrev pub torn_text : List ℕ → Thinned → ℕ → List ℕ
+torn_text bytes thinned read =
+    origins_text bytes (sees_opening thinned.history.ops (kept_at thinned.places read)) read (seen_places thinned read)
+
+-- where an operation gave a record that nobody wrote
 abbrev pub words_text : List ℕ → Thinned → Reason → List ℕ
-words_text bytes thinned (Unwritten read) = origins_text bytes read (seen_places thinned read)
+words_text bytes thinned (Unwritten read) = torn_text bytes thinned read
 words_text bytes thinned (Early read write) = []
 words_text bytes thinned (Stale before read) = []
 words_text bytes thinned (Crossed a b c d) = []

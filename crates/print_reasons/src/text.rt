@@ -4,14 +4,18 @@ ghost use Rattle.text_lines.specs.Words.{text_in, told};
 ghost use Rattle.print_reasons.specs.Text.{body_of, head_text, is_of_opening, lawful_text, line_text};
 ghost use Rattle.print_reasons.specs.Text.{named_text, opening_text, shown_text, unlawful_text, verdict_text};
 ghost use Rattle.print_reasons.specs.Text.{place_lines, reason_text, rule_text, seen_places, words_text, writes_text};
-ghost use Rattle.reason_sentences.specs.Sentences.{place_at};
-ghost use Rattle.record_words.specs.Origins.{origins_text};
+ghost use Rattle.print_reasons.specs.Text.{torn_text};
+ghost use Rattle.reason_sentences.specs.Beside.{place_at};
+ghost use Rattle.reason_sentences.specs.KeptAt.{kept_at};
+ghost use Rattle.reason_sentences.specs.Seen.{sees_opening};
 ghost use Rattle.text_lines.specs.Splits.{lines_of};
 
 use crate::named::{in_kept, is_named_next, next_of, shown_of};
 use history_core::{LogAnswer, Op, Reason, Thinned};
 use itoa::Buffer;
-use reason_sentences::{MOST_SEEN, could_see, kept_at, place_at, push_line_of, push_sentence};
+use reason_sentences::{
+    MOST_SEEN, could_see, kept_at, place_at, push_line_of, push_sentence, sees_opening,
+};
 use record_words::push_origins;
 use std::alloc::{AllocError, Global};
 use text_lines::{PackedText, line_of, split_line};
@@ -111,10 +115,18 @@ fn push_torn_words(
     read: usize,
 ) -> Result<(), AllocError>
     ensures { OnOk result (text.new.items
-        ≡ text.old.items ++ origins_text (text_in log.now) read (seen_places thinned.now read)) }
+        ≡ text.old.items ++ torn_text (text_in log.now) thinned.now read) }
 {
     let seen = seen_places(alloc, thinned, read)?;
-    push_origins(alloc, text, log, read, seen.as_slice())
+    let opening = could_see_opening(thinned, read);
+    push_origins(alloc, text, log, opening, read, seen.as_slice())
+}
+
+fn could_see_opening(thinned: &Thinned, read: usize) -> bool
+    ensures { result ≡ sees_opening thinned.now.history.ops (kept_at thinned.now.places read) }
+{
+    let kept = kept_at(thinned.places.as_slice(), read);
+    sees_opening(thinned.history.ops.as_slice(), kept)
 }
 
 /// The first writes that an operation could see, by their places in the log.

@@ -7,6 +7,7 @@ use Rattle.std.specs.Option.{option_and_then}
 use Rattle.history_core.specs.declared.history.Op.{Op}
 use Rattle.history_core.specs.declared.thinned.Thinned.{Thinned}
 use Rattle.text_lines.specs.Places.{line_at}
+use Rattle.reason_sentences.specs.Beside.{beside_text}
 use Rattle.reason_sentences.specs.KeptAt.{writes}
 use Rattle.reason_sentences.specs.Numbers.{number_text}
 use Rattle.reason_sentences.specs.Seen.{is_before}
@@ -52,10 +53,11 @@ replaced_text first write read =
 abbrev pub times_text : Thinned → ℕ → ℕ → ℕ → ℕ → List ℕ
 times_text thinned a b c d = apart_text thinned a b ++ codes "; " ++ apart_text thinned c d ++ codes ".\n"
 
--- `read` gave the record of `first`, which `write` had replaced, as `by` shows
+-- `read` gave the record of `first`, which `write` had replaced, as `by` shows; and which writes it could see
 abbrev pub old_text : Thinned → ℕ → ℕ → ℕ → ℕ → List ℕ
 old_text thinned first write by read =
     replaced_text first write read ++ shown_by write by ++ times_text thinned first write by read
+    ++ beside_text thinned read
 
 -- the lines of the other record: one between the first two, or two
 abbrev pub others_text : ℕ → ℕ → List ℕ

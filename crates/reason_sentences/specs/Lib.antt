@@ -1,3 +1,4 @@
+pub mod Beside
 pub mod Crossed
 pub mod KeptAt
 pub mod Numbers

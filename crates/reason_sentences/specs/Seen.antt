@@ -3,6 +3,7 @@
 -- Interprocess Communication, 1986, whose registers have one writer.
 use Rattle.std.specs.Prelude.{ℕ, ◌+◌, ◌++◌, ◌&&◌, not, List, [], ◌∷◌, Bool, false, nat_lt, if◌then◌else◌, slice_get}
 use Rattle.std.specs.Prelude.{Option, None, Some, unwrap_or}
+use Rattle.std.specs.List.{list_any}
 use Rattle.history_core.specs.declared.history.Op.{Op}
 use Rattle.history_core.specs.Orders.{is_write}
 
@@ -41,6 +42,14 @@ seen_by ops (Some o) = seen_from (last_begin o.starts 0 ops) (unwrap_or o.ends 0
 -- the places of the writes that the operation at a place could see
 abbrev pub could_see : List (Op ℕ) → ℕ → List ℕ
 could_see ops place = seen_by ops (slice_get ops place)
+
+abbrev pub opening_by : List (Op ℕ) → Option (Op ℕ) → Bool
+opening_by ops None = false
+opening_by ops (Some o) = not (list_any (had_ended o.starts) ops)
+
+-- and the opening, if no write had ended when it began
+abbrev pub sees_opening : List (Op ℕ) → ℕ → Bool
+sees_opening ops place = opening_by ops (slice_get ops place)
 
 -- so many of them are told
 abbrev pub most_seen : ℕ

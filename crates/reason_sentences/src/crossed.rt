@@ -5,14 +5,16 @@ ghost use Rattle.reason_sentences.specs.Crossed.{old_text, others_text, records_
 ghost use Rattle.reason_sentences.specs.Crossed.{shown_by, times_text, write_at, written_at};
 ghost use Rattle.std.specs.Option.{option_and_then};
 
+use crate::beside::push_beside;
 use crate::kept::write_of;
 use crate::seen::is_before;
 use crate::text::{push_line_of, push_words};
 use crate::times::{begin_at, op_at, push_apart};
 use history_core::Thinned;
-use std::alloc::AllocError;
+use std::alloc::{AllocError, Global};
 
 pub(crate) fn push_crossed(
+    alloc: Global,
     text: &mut Vec<u8>,
     thinned: &Thinned,
     a: usize,
@@ -23,8 +25,8 @@ pub(crate) fn push_crossed(
     ensures { OnOk result (text.new.items ≡ text.old.items ++ crossed_text thinned.now a b c d) }
 {
     match (replaced_by(thinned, a, b), replaced_by(thinned, c, d)) {
-        (Some(write), _) => push_old(text, thinned, a, write, c, d),
-        (None, Some(write)) => push_old(text, thinned, c, write, a, b),
+        (Some(write), _) => push_old(alloc, text, thinned, a, write, c, d),
+        (None, Some(write)) => push_old(alloc, text, thinned, c, write, a, b),
         (None, None) => push_both(text, thinned, a, b, c, d),
     }
 }
@@ -77,8 +79,9 @@ fn written_at(thinned: &Thinned, item: usize) -> Option<usize>
     }
 }
 
-/// That `read` gave the record of `first`, which `write` had replaced, as `by` shows.
+/// That `read` gave the record of `first`, which `write` had replaced, as `by` shows; and which writes it could see.
 fn push_old(
+    alloc: Global,
     text: &mut Vec<u8>,
     thinned: &Thinned,
     first: usize,
@@ -90,7 +93,8 @@ fn push_old(
 {
     push_replaced(text, first, write, read)?;
     push_shown_by(text, write, by)?;
-    push_times(text, thinned, first, write, by, read)
+    push_times(text, thinned, first, write, by, read)?;
+    push_beside(alloc, text, thinned, read)
 }
 
 fn push_replaced(

@@ -1,6 +1,7 @@
 //! A reason in one sentence, with the times that show it.
 #![tactic(auto)]
 
+mod beside;
 mod crossed;
 mod kept;
 mod seen;
@@ -8,7 +9,8 @@ mod sentence;
 mod text;
 mod times;
 
+pub use beside::place_at;
 pub use kept::{is_item, kept_at, write_of};
-pub use seen::{MOST_SEEN, could_see};
-pub use sentence::{place_at, push_sentence, push_unwritten};
+pub use seen::{MOST_SEEN, could_see, sees_opening};
+pub use sentence::{push_sentence, push_unwritten};
 pub use text::{push_line_of, push_u64, push_words};

@@ -1,7 +1,8 @@
 //! The writes that an operation could see.
 ghost use Rattle.std.specs.Prelude.{◌≡◌, ◌++◌, IfOk, OnOk};
 ghost use Rattle.reason_sentences.specs.Seen.{could_see, had_ended, is_before, is_seen, last_begin, later_begin};
-ghost use Rattle.reason_sentences.specs.Seen.{one_seen, seen_from};
+ghost use Rattle.reason_sentences.specs.Seen.{one_seen, seen_from, sees_opening};
+ghost use Rattle.std.specs.List.{list_any};
 
 use history_core::{Kind, Op};
 use std::alloc::{AllocError, Global};
@@ -20,6 +21,23 @@ pub fn could_see(alloc: Global, ops: &[Op<usize>], place: usize) -> Result<Vec<u
         }
         None => Ok(Vec::new(alloc)),
     }
+}
+
+/// Whether it could see the opening.
+pub fn sees_opening(ops: &[Op<usize>], place: usize) -> bool
+    ensures { result ≡ sees_opening ops.now place }
+{
+    match ops.get(place) {
+        Some(op) => !has_ended(op.starts, ops),
+        None => false,
+    }
+}
+
+/// Whether a write had ended at a moment.
+fn has_ended(moment: u64, ops: &[Op<usize>]) -> bool
+    ensures { result ≡ list_any (had_ended moment) ops.now }
+{
+    ops.iter().any(|op| had_ended(moment, op))
 }
 
 fn seen_in(alloc: Global, last: u64, end: u64, ops: &[Op<usize>]) -> Result<Vec<usize>, AllocError>

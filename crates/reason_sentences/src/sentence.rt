@@ -1,11 +1,10 @@
 //! A reason in one sentence.
-ghost use Rattle.std.specs.Prelude.{◌≡◌, ◌++◌, OnOk, codes};
-ghost use Rattle.reason_sentences.specs.Sentences.{beside_text, early_text, limit_text, place_at, rest_text, seen_line};
-ghost use Rattle.reason_sentences.specs.Sentences.{seen_lines, sentence_text, stale_text, unwritten_text};
+ghost use Rattle.std.specs.Prelude.{◌≡◌, ◌++◌, OnOk};
+ghost use Rattle.reason_sentences.specs.Beside.{beside_text};
+ghost use Rattle.reason_sentences.specs.Sentences.{early_text, limit_text, sentence_text, stale_text, unwritten_text};
 
+use crate::beside::push_beside;
 use crate::crossed::push_crossed;
-use crate::kept::kept_at;
-use crate::seen::{MOST_SEEN, could_see};
 use crate::text::{push_line_of, push_u64, push_words};
 use crate::times::push_apart;
 use history_core::{Reason, Thinned};
@@ -24,8 +23,8 @@ pub fn push_sentence(
     match reason {
         Reason::Unwritten { read } => push_torn(alloc, text, thinned, read),
         Reason::Early { read, write } => push_early(text, thinned, read, write),
-        Reason::Stale { before, read } => push_stale(text, thinned, before, read),
-        Reason::Crossed { a, b, c, d } => push_crossed(text, thinned, a, b, c, d),
+        Reason::Stale { before, read } => push_late(alloc, text, thinned, before, read),
+        Reason::Crossed { a, b, c, d } => push_crossed(alloc, text, thinned, a, b, c, d),
         Reason::Limit { refused } => push_limit(text, thinned, most, refused),
     }
 }
@@ -56,72 +55,6 @@ fn push_torn(
     push_beside(alloc, text, thinned, read)
 }
 
-fn push_beside(
-    alloc: Global,
-    text: &mut Vec<u8>,
-    thinned: &Thinned,
-    read: usize,
-) -> Result<(), AllocError>
-    ensures { OnOk result (text.new.items ≡ text.old.items ++ beside_text thinned.now read) }
-{
-    let places = thinned.places.as_slice();
-    let ops = thinned.history.ops.as_slice();
-    let mut seen = could_see(alloc, ops, kept_at(places, read))?;
-    let many = seen.len();
-    seen.truncate(MOST_SEEN);
-    push_seen(text, places, seen.as_slice(), many)
-}
-
-/// These are the first of so many.
-fn push_seen(
-    text: &mut Vec<u8>,
-    places: &[usize],
-    seen: &[usize],
-    many: usize,
-) -> Result<(), AllocError>
-    ensures { OnOk result (text.new.items ≡ text.old.items
-        ++ (codes "Lines of the writes that it could see:" ++ seen_lines places.now seen.now ++ rest_text many)) }
-{
-    push_words(text, "Lines of the writes that it could see:")?;
-    push_seen_lines(text, places, seen)?;
-    push_rest(text, many)
-}
-
-fn push_seen_lines(text: &mut Vec<u8>, places: &[usize], seen: &[usize]) -> Result<(), AllocError>
-    ensures { OnOk result (text.new.items ≡ text.old.items ++ seen_lines places.now seen.now) }
-{
-    for kept in seen {
-        push_seen_line(text, places, *kept)?;
-    }
-    Ok(())
-}
-
-fn push_seen_line(text: &mut Vec<u8>, places: &[usize], kept: usize) -> Result<(), AllocError>
-    ensures { OnOk result (text.new.items ≡ text.old.items ++ seen_line places.now kept) }
-{
-    push_line_of(text, " ", place_at(places, kept))
-}
-
-/// The place of a kept operation.
-pub fn place_at(places: &[usize], kept: usize) -> usize
-    ensures { result ≡ place_at places.now kept }
-{
-    places.get(kept).copied().unwrap_or(0)
-}
-
-/// Whether that were all of so many.
-fn push_rest(text: &mut Vec<u8>, many: usize) -> Result<(), AllocError>
-    ensures { OnOk result (text.new.items ≡ text.old.items ++ rest_text many) }
-{
-    if many == 0 {
-        push_words(text, " none.\n")
-    } else if MOST_SEEN < many {
-        push_words(text, " and more.\n")
-    } else {
-        push_words(text, ".\n")
-    }
-}
-
 fn push_early(
     text: &mut Vec<u8>,
     thinned: &Thinned,
@@ -134,6 +67,22 @@ fn push_early(
     push_words(text, " gave a record before the write of it began: ")?;
     push_apart(text, thinned, read, write)?;
     push_words(text, ".\n")
+}
+
+/// That a read gave the opening too late, and which writes it could see.
+#[tactic(auto, using(std::proofs::Common::append_assoc))]
+fn push_late(
+    alloc: Global,
+    text: &mut Vec<u8>,
+    thinned: &Thinned,
+    before: usize,
+    read: usize,
+) -> Result<(), AllocError>
+    ensures { OnOk result (text.new.items
+        ≡ text.old.items ++ (stale_text thinned.now before read ++ beside_text thinned.now read)) }
+{
+    push_stale(text, thinned, before, read)?;
+    push_beside(alloc, text, thinned, read)
 }
 
 fn push_stale(

@@ -1,9 +1,9 @@
 -- Of which lines the words of a record are, at their places (this project's own). Such a record was given, and nobody
 -- wrote it; a record that is torn has words of several writes.
-use Rattle.std.specs.Prelude.{ℕ, ◌+◌, ◌++◌, List, [], ◌∷◌, codes, length, map, Bool, false, nat_eq, nat_lt}
-use Rattle.std.specs.Prelude.{if◌then◌else◌, Option, None, Some, slice_get, unwrap_or}
+use Rattle.std.specs.Prelude.{ℕ, ◌+◌, ◌++◌, List, [], ◌∷◌, codes, length, map, Bool, true, false, nat_eq}
+use Rattle.std.specs.Prelude.{nat_lt, if◌then◌else◌, Option, None, Some, slice_get, unwrap_or}
 use Rattle.std.specs.Fmt.{decimal}
-use Rattle.std.specs.List.{flat_map, list_any}
+use Rattle.std.specs.List.{flat_map}
 use Rattle.text_lines.specs.Places.{line_at}
 use Rattle.text_lines.specs.Splits.{lines_of}
 use Rattle.record_words.specs.Words.{words_of}
@@ -25,9 +25,13 @@ words_at bytes place = record { line = line_at place; words = record_words bytes
 abbrev pub opening_words : List ℕ → LineWords
 opening_words bytes = record { line = 1; words = words_of (codes "opening") (line_in bytes 0) }
 
--- of the header, and of the operations at these places
-abbrev pub all_words : List ℕ → List ℕ → List LineWords
-all_words bytes places = opening_words bytes ∷ map (words_at bytes) places
+abbrev pub opening_line : Bool → List ℕ → List LineWords
+opening_line true bytes = opening_words bytes ∷ []
+opening_line false bytes = []
+
+-- of the header, if that is asked for, and of the operations at these places
+abbrev pub all_words : List ℕ → Bool → List ℕ → List LineWords
+all_words bytes opening places = opening_line opening bytes ++ map (words_at bytes) places
 
 -- ---- whose words they are
 
@@ -39,51 +43,46 @@ is_word word (Some own) = nat_eq own word
 abbrev pub has : ℕ → ℕ → LineWords → Bool
 has place word line = is_word word (slice_get line.words place)
 
-abbrev pub own_word : LineWords → ℕ → ℕ → List ℕ
-own_word line place word = if has place word line then word ∷ [] else []
+abbrev pub one_with : ℕ → ℕ → LineWords → List ℕ
+one_with place word line = if has place word line then line.line ∷ [] else []
 
--- the words that a line has too; the first of these words is at this place
-abbrev pub shared : LineWords → ℕ → List ℕ → List ℕ
-shared line place [] = []
-shared line place (w ∷ ws) = own_word line place w ++ shared line (place + 1) ws
-
-abbrev pub lost_word : List LineWords → ℕ → ℕ → List ℕ
-lost_word lines place word = if list_any (λ line. has place word line) lines then [] else word ∷ []
-
--- the words that none of the lines has
-abbrev pub lost : List LineWords → ℕ → List ℕ → List ℕ
-lost lines place [] = []
-lost lines place (w ∷ ws) = lost_word lines place w ++ lost lines (place + 1) ws
+-- the lines that have it, by their numbers
+abbrev pub lines_with : List LineWords → ℕ → ℕ → List ℕ
+lines_with lines place word = flat_map (one_with place word) lines
 
 -- ---- the text
 
-abbrev pub name_text : ℕ → List ℕ
-name_text line = if nat_eq line 1 then codes "the opening" else codes "line " ++ decimal line
+abbrev pub of_text : ℕ → List ℕ
+of_text line = if nat_eq line 1 then codes " of the opening" else codes " of line " ++ decimal line
 
-abbrev pub numbers_text : List ℕ → List ℕ
-numbers_text numbers = flat_map (λ n. codes " " ++ decimal n) numbers
+abbrev pub or_text : ℕ → List ℕ
+or_text n = if nat_eq n 0 then [] else codes " or"
 
-abbrev pub has_text : List ℕ → List ℕ
-has_text name = codes "Of its words " ++ name ++ codes " has"
+-- lines, behind so many others
+abbrev pub names_from : ℕ → List ℕ → List ℕ
+names_from n [] = []
+names_from n (line ∷ lines) = or_text n ++ of_text line ++ names_from (n + 1) lines
 
--- nothing of no words
-abbrev pub part_text : List ℕ → List ℕ → List ℕ
-part_text name [] = []
-part_text name (w ∷ ws) = has_text name ++ numbers_text (w ∷ ws) ++ codes ".\n"
+abbrev pub names_text : List ℕ → List ℕ
+names_text [] = codes " of none of these"
+names_text (line ∷ lines) = names_from 0 (line ∷ lines)
 
-abbrev pub shared_text : List ℕ → LineWords → List ℕ
-shared_text words line = part_text (name_text line.line) (shared line 0 words)
+abbrev pub front_text : ℕ → List ℕ
+front_text place = if nat_eq place 0 then codes "Its words: " else codes "; "
 
-abbrev pub all_shared : List LineWords → List ℕ → List ℕ
-all_shared lines words = flat_map (shared_text words) lines
+abbrev pub word_text : List LineWords → ℕ → ℕ → List ℕ
+word_text lines place word = front_text place ++ decimal word ++ names_text (lines_with lines place word)
 
-abbrev pub found_text : List LineWords → List ℕ → List ℕ
-found_text lines words = all_shared lines words ++ part_text (codes "no other line above") (lost lines 0 words)
+-- words, the first of which is at this place
+abbrev pub words_text : List LineWords → ℕ → List ℕ → List ℕ
+words_text lines place [] = []
+words_text lines place (w ∷ ws) = word_text lines place w ++ words_text lines (place + 1) ws
 
 -- nothing of one word
 abbrev pub told_of : List LineWords → List ℕ → List ℕ
-told_of lines words = if nat_lt (length words) 2 then [] else found_text lines words
+told_of lines words = if nat_lt (length words) 2 then [] else words_text lines 0 words ++ codes ".\n"
 
--- of which lines the words of the operation at this place are: the header and these writes are looked at
-abbrev pub origins_text : List ℕ → ℕ → List ℕ → List ℕ
-origins_text bytes read writes = told_of (all_words bytes writes) (record_words bytes read)
+-- of which lines the words of the operation at this place are: these writes, and the header if that is asked for, are
+-- looked at
+abbrev pub origins_text : List ℕ → Bool → ℕ → List ℕ → List ℕ
+origins_text bytes opening read writes = told_of (all_words bytes opening writes) (record_words bytes read)

@@ -2,7 +2,8 @@
 ghost use Rattle.std.specs.Prelude.{◌≡◌, IfOk, codes, option_map, slice_get};
 ghost use Rattle.text_lines.specs.Splits.{lines_of};
 ghost use Rattle.text_lines.specs.Words.{text_in, told};
-ghost use Rattle.record_words.specs.Origins.{all_words, line_in, opening_words, record_words, words_at};
+ghost use Rattle.record_words.specs.Origins.{all_words, line_in, opening_line, opening_words};
+ghost use Rattle.record_words.specs.Origins.{record_words, words_at};
 
 use crate::words::words_of;
 use history_core::Items;
@@ -16,20 +17,34 @@ pub struct LineWords {
     pub words: Items<u64>,
 }
 
-/// The words of the header and of the operations at these places.
+/// The words of the header, if that is asked for, and of the operations at these places.
 pub(crate) fn all_words(
     alloc: Global,
     packed: &PackedText,
+    opening: bool,
     places: &[usize],
 ) -> Result<Vec<LineWords>, AllocError>
-    ensures { IfOk result (λ lines. lines.items ≡ all_words (text_in packed.now) places.now) }
+    ensures { IfOk result (λ lines. lines.items ≡ all_words (text_in packed.now) opening places.now) }
 {
-    let mut lines = Vec::new(alloc);
-    let opening = opening_words(alloc, packed)?;
-    lines.push(opening)?;
+    let mut lines = opening_line(alloc, packed, opening)?;
     for place in places {
         let next = words_at(alloc, packed, *place)?;
         lines.push(next)?;
+    }
+    Ok(lines)
+}
+
+fn opening_line(
+    alloc: Global,
+    packed: &PackedText,
+    opening: bool,
+) -> Result<Vec<LineWords>, AllocError>
+    ensures { IfOk result (λ lines. lines.items ≡ opening_line opening (text_in packed.now)) }
+{
+    let mut lines = Vec::new(alloc);
+    if opening {
+        let words = opening_words(alloc, packed)?;
+        lines.push(words)?;
     }
     Ok(lines)
 }

@@ -1,33 +1,34 @@
 //! What is said of the words of a record.
 ghost use Rattle.std.specs.Prelude.{◌≡◌, ◌++◌, codes, IfOk, OnOk};
 ghost use Rattle.std.specs.Fmt.{decimal};
-ghost use Rattle.std.specs.List.{list_any};
 ghost use Rattle.text_lines.specs.Words.{text_in};
-ghost use Rattle.record_words.specs.Origins.{all_shared, found_text, has, has_text, lost, lost_word, name_text};
-ghost use Rattle.record_words.specs.Origins.{numbers_text, origins_text, own_word, part_text, shared, shared_text};
-ghost use Rattle.record_words.specs.Origins.{told_of};
+ghost use Rattle.record_words.specs.Origins.{front_text, has, lines_with, names_from, names_text, of_text, one_with};
+ghost use Rattle.record_words.specs.Origins.{or_text, origins_text, told_of, word_text, words_text};
 
 use crate::line::{LineWords, all_words, record_words};
 use itoa::Buffer;
 use std::alloc::{AllocError, Global};
 use text_lines::PackedText;
 
-/// Adds of which lines the words of the operation at a place are, if it has several: the header and the writes at these
-/// places are looked at.
+/// Adds of which lines the words of the operation at a place are, if it has several: the writes at these places, and the
+/// header if that is asked for, are looked at.
 pub fn push_origins(
     alloc: Global,
     text: &mut Vec<u8>,
     packed: &PackedText,
+    opening: bool,
     read: usize,
     writes: &[usize],
 ) -> Result<(), AllocError>
-    ensures { OnOk result (text.new.items ≡ text.old.items ++ origins_text (text_in packed.now) read writes.now) }
+    ensures { OnOk result (text.new.items
+        ≡ text.old.items ++ origins_text (text_in packed.now) opening read writes.now) }
 {
     let words = record_words(alloc, packed, read)?;
-    let lines = all_words(alloc, packed, writes)?;
+    let lines = all_words(alloc, packed, opening, writes)?;
     push_told(alloc, text, lines.as_slice(), words.as_slice())
 }
 
+#[tactic(auto, using(std::proofs::Common::append_assoc))]
 fn push_told(
     alloc: Global,
     text: &mut Vec<u8>,
@@ -39,182 +40,142 @@ fn push_told(
     if words.len() < 2 {
         Ok(())
     } else {
-        push_found(alloc, text, lines, words)
+        push_words(alloc, text, lines, words)?;
+        text.extend_from_slice(b".\n")
     }
 }
 
-#[tactic(auto, using(std::proofs::Common::append_assoc))]
-fn push_found(
+fn push_words(
     alloc: Global,
     text: &mut Vec<u8>,
     lines: &[LineWords],
     words: &[u64],
 ) -> Result<(), AllocError>
-    ensures { OnOk result (text.new.items ≡ text.old.items ++ found_text lines.now words.now) }
+    ensures { OnOk result (text.new.items ≡ text.old.items ++ words_text lines.now 0 words.now) }
 {
-    push_all_shared(alloc, text, lines, words)?;
-    push_lost(alloc, text, lines, words)
-}
-
-fn push_all_shared(
-    alloc: Global,
-    text: &mut Vec<u8>,
-    lines: &[LineWords],
-    words: &[u64],
-) -> Result<(), AllocError>
-    ensures { OnOk result (text.new.items ≡ text.old.items ++ all_shared lines.now words.now) }
-{
-    for line in lines {
-        push_shared(alloc, text, line, words)?;
-    }
-    Ok(())
-}
-
-/// Which of the words a line has.
-fn push_shared(
-    alloc: Global,
-    text: &mut Vec<u8>,
-    line: &LineWords,
-    words: &[u64],
-) -> Result<(), AllocError>
-    ensures { OnOk result (text.new.items ≡ text.old.items ++ shared_text words.now line.now) }
-{
-    let name = name_of(alloc, line.line)?;
-    let own = shared(alloc, line, words)?;
-    push_part(text, name.as_slice(), own.as_slice())
-}
-
-/// How a line is named.
-fn name_of(alloc: Global, line: usize) -> Result<Vec<u8>, AllocError>
-    ensures { IfOk result (λ name. name.items ≡ name_text line) }
-{
-    let mut name = Vec::new(alloc);
-    if line == 1 {
-        name.extend_from_slice(b"the opening")?;
-    } else {
-        let mut buffer = Buffer::new();
-        name.extend_from_slice(b"line ")?;
-        name.extend_from_slice(buffer.format(line).as_bytes())?;
-    }
-    Ok(name)
-}
-
-/// Which of the words none of the lines has.
-fn push_lost(
-    alloc: Global,
-    text: &mut Vec<u8>,
-    lines: &[LineWords],
-    words: &[u64],
-) -> Result<(), AllocError>
-    ensures { OnOk result (text.new.items
-        ≡ text.old.items ++ part_text (codes "no other line above") (lost lines.now 0 words.now)) }
-{
-    let none = lost(alloc, lines, words)?;
-    push_part(text, b"no other line above", none.as_slice())
-}
-
-fn push_part(text: &mut Vec<u8>, name: &[u8], words: &[u64]) -> Result<(), AllocError>
-    ensures { OnOk result (text.new.items ≡ text.old.items ++ part_text name.now words.now) }
-{
-    if words.is_empty() {
-        Ok(())
-    } else {
-        push_words(text, name, words)
-    }
-}
-
-#[tactic(auto, using(std::proofs::Common::append_assoc))]
-fn push_words(text: &mut Vec<u8>, name: &[u8], words: &[u64]) -> Result<(), AllocError>
-    ensures { OnOk result (text.new.items
-        ≡ text.old.items ++ (has_text name.now ++ numbers_text words.now ++ codes ".\n")) }
-{
-    push_has(text, name)?;
-    push_numbers(text, words)?;
-    text.extend_from_slice(b".\n")
-}
-
-fn push_has(text: &mut Vec<u8>, name: &[u8]) -> Result<(), AllocError>
-    ensures { OnOk result (text.new.items ≡ text.old.items ++ has_text name.now) }
-{
-    push_three(text, b"Of its words ", name, b" has")
-}
-
-#[tactic(auto, using(std::proofs::Common::append_assoc))]
-fn push_three(text: &mut Vec<u8>, a: &[u8], b: &[u8], c: &[u8]) -> Result<(), AllocError>
-    ensures { OnOk result (text.new.items ≡ text.old.items ++ (a.now ++ b.now ++ c.now)) }
-{
-    text.extend_from_slice(a)?;
-    text.extend_from_slice(b)?;
-    text.extend_from_slice(c)
-}
-
-fn push_numbers(text: &mut Vec<u8>, numbers: &[u64]) -> Result<(), AllocError>
-    ensures { OnOk result (text.new.items ≡ text.old.items ++ numbers_text numbers.now) }
-{
-    for number in numbers {
-        push_number(text, *number)?;
-    }
-    Ok(())
-}
-
-#[tactic(auto, using(std::proofs::Common::append_assoc))]
-fn push_number(text: &mut Vec<u8>, number: u64) -> Result<(), AllocError>
-    ensures { OnOk result (text.new.items ≡ text.old.items ++ (codes " " ++ decimal number)) }
-{
-    let mut buffer = Buffer::new();
-    text.extend_from_slice(b" ")?;
-    text.extend_from_slice(buffer.format(number).as_bytes())
-}
-
-/// The words that a line has at their places.
-fn shared(alloc: Global, line: &LineWords, words: &[u64]) -> Result<Vec<u64>, AllocError>
-    ensures { IfOk result (λ own. own.items ≡ shared line.now 0 words.now) }
-{
-    let mut own = Vec::new(alloc);
     for place in 0..words.len() {
-        push_own(&mut own, line, place, words[place])?;
-    }
-    Ok(own)
-}
-
-fn push_own(own: &mut Vec<u64>, line: &LineWords, place: usize, word: u64) -> Result<(), AllocError>
-    ensures { OnOk result (own.new.items ≡ own.old.items ++ own_word line.now place word) }
-{
-    if has(place, word, line) {
-        own.push(word)?;
+        push_word(alloc, text, lines, place, words[place])?;
     }
     Ok(())
 }
 
-/// The words that none of the lines has at their places.
-fn lost(alloc: Global, lines: &[LineWords], words: &[u64]) -> Result<Vec<u64>, AllocError>
-    ensures { IfOk result (λ none. none.items ≡ lost lines.now 0 words.now) }
-{
-    let mut none = Vec::new(alloc);
-    for place in 0..words.len() {
-        push_lost_word(&mut none, lines, place, words[place])?;
-    }
-    Ok(none)
-}
-
-fn push_lost_word(
-    none: &mut Vec<u64>,
+/// A word, and the lines that have it.
+#[tactic(auto, using(std::proofs::Common::append_assoc))]
+fn push_word(
+    alloc: Global,
+    text: &mut Vec<u8>,
     lines: &[LineWords],
     place: usize,
     word: u64,
 ) -> Result<(), AllocError>
-    ensures { OnOk result (none.new.items ≡ none.old.items ++ lost_word lines.now place word) }
+    ensures { OnOk result (text.new.items ≡ text.old.items ++ word_text lines.now place word) }
 {
-    if !is_found(lines, place, word) {
-        none.push(word)?;
+    let found = lines_with(alloc, lines, place, word)?;
+    push_front(text, place)?;
+    push_number(text, word)?;
+    push_names(text, found.as_slice())
+}
+
+fn push_front(text: &mut Vec<u8>, place: usize) -> Result<(), AllocError>
+    ensures { OnOk result (text.new.items ≡ text.old.items ++ front_text place) }
+{
+    if place == 0 {
+        text.extend_from_slice(b"Its words: ")
+    } else {
+        text.extend_from_slice(b"; ")
+    }
+}
+
+fn push_number(text: &mut Vec<u8>, number: u64) -> Result<(), AllocError>
+    ensures { OnOk result (text.new.items ≡ text.old.items ++ decimal number) }
+{
+    let mut buffer = Buffer::new();
+    text.extend_from_slice(buffer.format(number).as_bytes())
+}
+
+fn push_names(text: &mut Vec<u8>, lines: &[usize]) -> Result<(), AllocError>
+    ensures { OnOk result (text.new.items ≡ text.old.items ++ names_text lines.now) }
+{
+    if lines.is_empty() {
+        text.extend_from_slice(b" of none of these")
+    } else {
+        push_all_names(text, lines)
+    }
+}
+
+fn push_all_names(text: &mut Vec<u8>, lines: &[usize]) -> Result<(), AllocError>
+    ensures { OnOk result (text.new.items ≡ text.old.items ++ names_from 0 lines.now) }
+{
+    for number in 0..lines.len() {
+        push_name(text, number, lines[number])?;
     }
     Ok(())
 }
 
-fn is_found(lines: &[LineWords], place: usize, word: u64) -> bool
-    ensures { result ≡ list_any (λ line. has place word line) lines.now }
+#[tactic(auto, using(std::proofs::Common::append_assoc))]
+fn push_name(text: &mut Vec<u8>, number: usize, line: usize) -> Result<(), AllocError>
+    ensures { OnOk result (text.new.items ≡ text.old.items ++ (or_text number ++ of_text line)) }
 {
-    lines.iter().any(|line| has(place, word, line))
+    push_or(text, number)?;
+    push_of(text, line)
+}
+
+fn push_or(text: &mut Vec<u8>, number: usize) -> Result<(), AllocError>
+    ensures { OnOk result (text.new.items ≡ text.old.items ++ or_text number) }
+{
+    if number == 0 {
+        Ok(())
+    } else {
+        text.extend_from_slice(b" or")
+    }
+}
+
+fn push_of(text: &mut Vec<u8>, line: usize) -> Result<(), AllocError>
+    ensures { OnOk result (text.new.items ≡ text.old.items ++ of_text line) }
+{
+    if line == 1 {
+        text.extend_from_slice(b" of the opening")
+    } else {
+        push_line(text, line)
+    }
+}
+
+#[tactic(auto, using(std::proofs::Common::append_assoc))]
+fn push_line(text: &mut Vec<u8>, line: usize) -> Result<(), AllocError>
+    ensures { OnOk result (text.new.items ≡ text.old.items ++ (codes " of line " ++ decimal line)) }
+{
+    text.extend_from_slice(b" of line ")?;
+    push_number(text, line as u64)
+}
+
+/// The lines that have a word at a place.
+fn lines_with(
+    alloc: Global,
+    lines: &[LineWords],
+    place: usize,
+    word: u64,
+) -> Result<Vec<usize>, AllocError>
+    ensures { IfOk result (λ found. found.items ≡ lines_with lines.now place word) }
+{
+    let mut found = Vec::new(alloc);
+    for line in lines {
+        push_one_with(&mut found, place, word, line)?;
+    }
+    Ok(found)
+}
+
+fn push_one_with(
+    found: &mut Vec<usize>,
+    place: usize,
+    word: u64,
+    line: &LineWords,
+) -> Result<(), AllocError>
+    ensures { OnOk result (found.new.items ≡ found.old.items ++ one_with place word line.now) }
+{
+    if has(place, word, line) {
+        found.push(line.line)?;
+    }
+    Ok(())
 }
 
 fn has(place: usize, word: u64, line: &LineWords) -> bool

@@ -105,7 +105,7 @@ def told(data, reason):
     which = key_line(key) + LATER if len(keys_of(ops)) > 1 else ""
     says = sentence(reason[0], lines, opening, limit, ops)
     if reason[0] == "unwritten":
-        says += origins(texts, lines[0], could_see(lines[0], ops)[:MOST_SEEN])
+        says += origins(texts, lines[0], [1] * sees_opening(lines[0], ops) + could_see(lines[0], ops)[:MOST_SEEN])
     return f"unlawful {' '.join(reason)}\n" + shows + says + which + counts(opening, ops, ended)
 
 
@@ -121,17 +121,16 @@ def words_of(text, key):
 
 
 def origins(texts, line, seen):
-    """Which of the words of a line, if it has several, the opening and the lines of these writes have at the same places."""
+    """Which of these lines have each word of a line, if it has several, at the same place; line 1 is the opening's."""
     words = words_of(texts[line - 1], "record")
     if len(words) < 2:
         return ""
-    parts, lost = [], dict(enumerate(words))
-    for other in (1, *seen):
-        own = dict(enumerate(words_of(texts[other - 1], "opening" if other == 1 else "record")))
-        parts.append(("the opening" if other == 1 else f"line {other}", [word for place, word in enumerate(words) if own.get(place) == word]))
-        lost = {place: word for place, word in lost.items() if own.get(place) != word}
-    parts.append(("no other line above", list(lost.values())))
-    return "".join(f"Of its words {name} has {' '.join(map(str, found))}.\n" for name, found in parts if found)
+    whole = {other: dict(enumerate(words_of(texts[other - 1], "opening" if other == 1 else "record"))) for other in seen}
+    parts = []
+    for place, word in enumerate(words):
+        found = ["the opening" if other == 1 else f"line {other}" for other in seen if whole[other].get(place) == word]
+        parts.append(f"{word} of {' or of '.join(found) or 'none of these'}")
+    return f"Its words: {'; '.join(parts)}.\n"
 
 
 def named_by(lines, ops):
@@ -152,6 +151,12 @@ def could_see(line, ops):
     writes = [each for each in of_key(ops, it["key"]) if each["kind"] == "write"]
     return [one["line"] for one in writes if one["begin"] <= it["end"]
             and not any(ended_before(one, other) and ended_before(other, it) for other in writes)]
+
+
+def sees_opening(line, ops):
+    """Whether no write of its key had ended when the operation on a line began."""
+    it = ops[line - 2]
+    return not any(each["kind"] == "write" and ended_before(each, it) for each in of_key(ops, it["key"]))
 
 
 def shown_of(rule, lines, ops):
@@ -226,24 +231,25 @@ def sentence(rule, lines, opening, limit, ops):
     def apart(one, other):
         return f"line {one} ended at {ops[one - 2]['end']}, line {other} began at {ops[other - 2]['begin']}"
 
+    def beside(line):
+        seen = could_see(line, ops)
+        rest = " and more" if seen[MOST_SEEN:] else ""
+        return f"Lines of the writes that it could see:{''.join(f' {each}' for each in seen[:MOST_SEEN]) or ' none'}{rest}.\n"
+
     first = lines[0]
     if rule == "unwritten":
-        seen = could_see(first, ops)
-        rest = " and more" if seen[MOST_SEEN:] else ""
-        told_lines = "".join(f" {line}" for line in seen[:MOST_SEEN]) or " none"
-        return (f"Line {first} gave a record that is neither the opening nor written.\n"
-                f"Lines of the writes that it could see:{told_lines}{rest}.\n")
+        return f"Line {first} gave a record that is neither the opening nor written.\n{beside(first)}"
     if rule == "early":
         return f"Line {first} gave a record before the write of it began: {apart(*lines)}.\n"
     if rule == "stale":
-        return f"Line {lines[1]} gave an old record, the opening: {apart(*lines)}.\n"
+        return f"Line {lines[1]} gave an old record, the opening: {apart(*lines)}.\n{beside(lines[1])}"
     if rule == "crossed":
         old = old_record(lines, ops)
         if old:
             before, write, by, late = old
             shows = "" if write == by else f", as line {by} shows"
             return (f"Line {late} gave an old record, that of line {before}, which line {write} had replaced{shows}: "
-                    f"{apart(before, write)}; {apart(by, late)}.\n")
+                    f"{apart(before, write)}; {apart(by, late)}.\n{beside(late)}")
         one = f"Lines {first} and {lines[3]} are of one record"
         if lines[1] == lines[2]:
             both = f"{one}, and line {lines[1]}, of another, stands between them"

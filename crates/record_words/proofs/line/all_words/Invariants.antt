@@ -5,4 +5,4 @@ use Rattle.record_words.specs.Origins.{all_words}
 use Rattle.record_words.proofs.line.all_words.Given as goal
 
 abbrev pub invariant-loop-place : goal.invariant-loop-place
-invariant-loop-place l = l.lines.items ≡ all_words (text_in l.packed) (take l.place-index l.places)
+invariant-loop-place l = l.lines.items ≡ all_words (text_in l.packed) l.opening (take l.place-index l.places)

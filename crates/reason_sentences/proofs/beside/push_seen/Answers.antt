@@ -1,7 +1,7 @@
 -- Three pieces stand behind each other.
 use Rattle.std.proofs.lemmas.Result.{on_ok_weaker}
 use Rattle.reason_sentences.proofs.CountLemmas.{three_pieces}
-use Rattle.reason_sentences.proofs.sentence.push_seen.Goals as goal
+use Rattle.reason_sentences.proofs.beside.push_seen.Goals as goal
 
 pub returns : goal.returns
 returns c = on_ok_weaker c.push_rest.result (λ last. three_pieces c.args.text.now.items _ _ _ c.push_words.new.text.items
