@@ -330,7 +330,7 @@ LOG
     awk '{ print "line " NR ": " $0 }' "$room/words.jsonl"
     echo 'Line 4 gave a record that is neither the opening nor written.'
     echo 'Lines of the writes that it could see: 2 3.'
-    echo 'Its words: 5 of line 2; 3 of none of these; 2 of line 3.'
+    echo 'Its words: 5 (line 2), 3 (no record that it could see), 2 (line 3).'
     echo '3 operations, 0 unfinished, 4 records, 1 of them read; no last line `done`'
 } >"$room/wanted"
 ends_fsr 1 out order "$room/words.jsonl"

@@ -1,6 +1,6 @@
 -- The printed lines of a search for an order of a log in lines (this project's own).
 use Rattle.std.specs.Prelude.{ℕ, ◌+◌, ◌++◌, ◌&&◌, List, [], ◌∷◌, drop, codes, Bool, false, true, if◌then◌else◌}
-use Rattle.std.specs.Prelude.{map, slice_get, take}
+use Rattle.std.specs.Prelude.{length, map, nat_lt, slice_get}
 use Rattle.std.specs.Fmt.{decimal}
 use Rattle.std.specs.List.{flat_map}
 use Rattle.history_core.specs.declared.history.Op.{Op}
@@ -85,15 +85,16 @@ shown_text bytes thinned reason =
     named_text thinned.history.ops thinned.places (shown_of thinned.history.ops (in_kept thinned.places reason)) 0 0
     (body_of bytes)
 
--- the first writes that an operation could see, by their places in the log
-abbrev pub seen_places : Thinned → ℕ → List ℕ
-seen_places thinned read =
-    map (place_at thinned.places) (take most_seen (could_see thinned.history.ops (kept_at thinned.places read)))
+-- of which of these writes the words are that an operation gave, and of the opening if it could see that; nothing if
+-- the writes are too many
+abbrev pub torn_by : List ℕ → Thinned → ℕ → List ℕ → List ℕ
+torn_by bytes thinned read seen = if nat_lt most_seen (length seen) then []
+    else origins_text bytes (sees_opening thinned.history.ops (kept_at thinned.places read)) read
+    (map (place_at thinned.places) seen)
 
--- of which of these lines the words are that the operation gave, and of the opening if it could see that
+-- the same of the writes that it could see
 abbrev pub torn_text : List ℕ → Thinned → ℕ → List ℕ
-torn_text bytes thinned read =
-    origins_text bytes (sees_opening thinned.history.ops (kept_at thinned.places read)) read (seen_places thinned read)
+torn_text bytes thinned read = torn_by bytes thinned read (could_see thinned.history.ops (kept_at thinned.places read))
 
 -- where an operation gave a record that nobody wrote
 abbrev pub words_text : List ℕ → Thinned → Reason → List ℕ

@@ -3,7 +3,7 @@ ghost use Rattle.std.specs.Prelude.{◌≡◌, ◌++◌, ◌∷◌, [], map, IfO
 ghost use Rattle.text_lines.specs.Words.{text_in, told};
 ghost use Rattle.print_reasons.specs.Text.{body_of, head_text, is_of_opening, lawful_text, line_text};
 ghost use Rattle.print_reasons.specs.Text.{named_text, opening_text, shown_text, unlawful_text, verdict_text};
-ghost use Rattle.print_reasons.specs.Text.{place_lines, reason_text, rule_text, seen_places, words_text, writes_text};
+ghost use Rattle.print_reasons.specs.Text.{place_lines, reason_text, rule_text, torn_by, words_text, writes_text};
 ghost use Rattle.print_reasons.specs.Text.{torn_text};
 ghost use Rattle.reason_sentences.specs.Beside.{place_at};
 ghost use Rattle.reason_sentences.specs.KeptAt.{kept_at};
@@ -117,9 +117,29 @@ fn push_torn_words(
     ensures { OnOk result (text.new.items
         ≡ text.old.items ++ torn_text (text_in log.now) thinned.now read) }
 {
-    let seen = seen_places(alloc, thinned, read)?;
+    let kept = kept_at(thinned.places.as_slice(), read);
+    let seen = could_see(alloc, thinned.history.ops.as_slice(), kept)?;
+    push_words_by(alloc, text, log, thinned, read, seen.as_slice())
+}
+
+/// The same by the writes that it could see.
+fn push_words_by(
+    alloc: Global,
+    text: &mut Vec<u8>,
+    log: &PackedText,
+    thinned: &Thinned,
+    read: usize,
+    seen: &[usize],
+) -> Result<(), AllocError>
+    ensures { OnOk result (text.new.items
+        ≡ text.old.items ++ torn_by (text_in log.now) thinned.now read seen.now) }
+{
+    if MOST_SEEN < seen.len() {
+        return Ok(());
+    }
+    let writes = places_of(alloc, thinned.places.as_slice(), seen)?;
     let opening = could_see_opening(thinned, read);
-    push_origins(alloc, text, log, opening, read, seen.as_slice())
+    push_origins(alloc, text, log, opening, read, writes.as_slice())
 }
 
 fn could_see_opening(thinned: &Thinned, read: usize) -> bool
@@ -127,17 +147,6 @@ fn could_see_opening(thinned: &Thinned, read: usize) -> bool
 {
     let kept = kept_at(thinned.places.as_slice(), read);
     sees_opening(thinned.history.ops.as_slice(), kept)
-}
-
-/// The first writes that an operation could see, by their places in the log.
-fn seen_places(alloc: Global, thinned: &Thinned, read: usize) -> Result<Vec<usize>, AllocError>
-    ensures { IfOk result (λ seen. seen.items ≡ seen_places thinned.now read) }
-{
-    let places = thinned.places.as_slice();
-    let ops = thinned.history.ops.as_slice();
-    let mut kept = could_see(alloc, ops, kept_at(places, read))?;
-    kept.truncate(MOST_SEEN);
-    places_of(alloc, places, kept.as_slice())
 }
 
 /// The places of kept operations.

@@ -2,16 +2,17 @@
 ghost use Rattle.std.specs.Prelude.{◌≡◌, ◌++◌, codes, IfOk, OnOk};
 ghost use Rattle.std.specs.Fmt.{decimal};
 ghost use Rattle.text_lines.specs.Words.{text_in};
-ghost use Rattle.record_words.specs.Origins.{front_text, has, lines_with, names_from, names_text, of_text, one_with};
-ghost use Rattle.record_words.specs.Origins.{or_text, origins_text, told_of, word_text, words_text};
+ghost use Rattle.record_words.specs.Origins.{front_text, gap_text, has, line_name, lines_with};
+ghost use Rattle.record_words.specs.Origins.{names_from, names_text, one_with, origins_text, told_of, word_text};
+ghost use Rattle.record_words.specs.Origins.{words_text};
 
 use crate::line::{LineWords, all_words, record_words};
 use itoa::Buffer;
 use std::alloc::{AllocError, Global};
 use text_lines::PackedText;
 
-/// Adds of which lines the words of the operation at a place are, if it has several: the writes at these places, and the
-/// header if that is asked for, are looked at.
+/// Adds of which lines the words of the operation at a place are, if it has several: the writes at these places, and
+/// the header if that is asked for, are looked at.
 pub fn push_origins(
     alloc: Global,
     text: &mut Vec<u8>,
@@ -82,7 +83,7 @@ fn push_front(text: &mut Vec<u8>, place: usize) -> Result<(), AllocError>
     if place == 0 {
         text.extend_from_slice(b"Its words: ")
     } else {
-        text.extend_from_slice(b"; ")
+        text.extend_from_slice(b", ")
     }
 }
 
@@ -93,13 +94,15 @@ fn push_number(text: &mut Vec<u8>, number: u64) -> Result<(), AllocError>
     text.extend_from_slice(buffer.format(number).as_bytes())
 }
 
+#[tactic(auto, using(std::proofs::Common::append_assoc))]
 fn push_names(text: &mut Vec<u8>, lines: &[usize]) -> Result<(), AllocError>
     ensures { OnOk result (text.new.items ≡ text.old.items ++ names_text lines.now) }
 {
     if lines.is_empty() {
-        text.extend_from_slice(b" of none of these")
+        text.extend_from_slice(b" (no record that it could see)")
     } else {
-        push_all_names(text, lines)
+        push_all_names(text, lines)?;
+        text.extend_from_slice(b")")
     }
 }
 
@@ -114,27 +117,27 @@ fn push_all_names(text: &mut Vec<u8>, lines: &[usize]) -> Result<(), AllocError>
 
 #[tactic(auto, using(std::proofs::Common::append_assoc))]
 fn push_name(text: &mut Vec<u8>, number: usize, line: usize) -> Result<(), AllocError>
-    ensures { OnOk result (text.new.items ≡ text.old.items ++ (or_text number ++ of_text line)) }
+    ensures { OnOk result (text.new.items ≡ text.old.items ++ (gap_text number ++ line_name line)) }
 {
-    push_or(text, number)?;
-    push_of(text, line)
+    push_gap(text, number)?;
+    push_line_name(text, line)
 }
 
-fn push_or(text: &mut Vec<u8>, number: usize) -> Result<(), AllocError>
-    ensures { OnOk result (text.new.items ≡ text.old.items ++ or_text number) }
+fn push_gap(text: &mut Vec<u8>, number: usize) -> Result<(), AllocError>
+    ensures { OnOk result (text.new.items ≡ text.old.items ++ gap_text number) }
 {
     if number == 0 {
-        Ok(())
+        text.extend_from_slice(b" (")
     } else {
-        text.extend_from_slice(b" or")
+        text.extend_from_slice(b", ")
     }
 }
 
-fn push_of(text: &mut Vec<u8>, line: usize) -> Result<(), AllocError>
-    ensures { OnOk result (text.new.items ≡ text.old.items ++ of_text line) }
+fn push_line_name(text: &mut Vec<u8>, line: usize) -> Result<(), AllocError>
+    ensures { OnOk result (text.new.items ≡ text.old.items ++ line_name line) }
 {
     if line == 1 {
-        text.extend_from_slice(b" of the opening")
+        text.extend_from_slice(b"the opening")
     } else {
         push_line(text, line)
     }
@@ -142,9 +145,9 @@ fn push_of(text: &mut Vec<u8>, line: usize) -> Result<(), AllocError>
 
 #[tactic(auto, using(std::proofs::Common::append_assoc))]
 fn push_line(text: &mut Vec<u8>, line: usize) -> Result<(), AllocError>
-    ensures { OnOk result (text.new.items ≡ text.old.items ++ (codes " of line " ++ decimal line)) }
+    ensures { OnOk result (text.new.items ≡ text.old.items ++ (codes "line " ++ decimal line)) }
 {
-    text.extend_from_slice(b" of line ")?;
+    text.extend_from_slice(b"line ")?;
     push_number(text, line as u64)
 }
 

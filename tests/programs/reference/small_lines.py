@@ -105,7 +105,8 @@ def told(data, reason):
     which = key_line(key) + LATER if len(keys_of(ops)) > 1 else ""
     says = sentence(reason[0], lines, opening, limit, ops)
     if reason[0] == "unwritten":
-        says += origins(texts, lines[0], [1] * sees_opening(lines[0], ops) + could_see(lines[0], ops)[:MOST_SEEN])
+        seen = could_see(lines[0], ops)
+        says += "" if seen[MOST_SEEN:] else origins(texts, lines[0], [1] * sees_opening(lines[0], ops) + seen)
     return f"unlawful {' '.join(reason)}\n" + shows + says + which + counts(opening, ops, ended)
 
 
@@ -129,8 +130,8 @@ def origins(texts, line, seen):
     parts = []
     for place, word in enumerate(words):
         found = ["the opening" if other == 1 else f"line {other}" for other in seen if whole[other].get(place) == word]
-        parts.append(f"{word} of {' or of '.join(found) or 'none of these'}")
-    return f"Its words: {'; '.join(parts)}.\n"
+        parts.append(f"{word} ({', '.join(found) or 'no record that it could see'})")
+    return f"Its words: {', '.join(parts)}.\n"
 
 
 def named_by(lines, ops):
