@@ -111,8 +111,12 @@ def told(data, reason):
 
 
 def words_of(text, key):
-    """The words of a line: the whole numbers in front at `words`, else at this key; one number is the array of it."""
-    row = documents.read_json(text.encode())
+    """The words of a line: the whole numbers in front at `words`, else at this key; one number is the array of it. The last line has none
+    if it isn't JSON by itself, for a form feed behind it."""
+    try:
+        row = documents.read_json(text.encode())
+    except documents.Refused:
+        return []
     for name in ("words", key):
         found = row.get(name)
         numbers = list(itertools.takewhile(is_whole, found if isinstance(found, list) else [found]))
