@@ -4,6 +4,7 @@ use Rattle.std.specs.Prelude.{ℕ, ◌++◌, ◌&&◌, List, length, codes, Bool
 use Rattle.std.specs.Prelude.{Option, Some, None, option_map}
 use Rattle.std.specs.Fmt.{decimal}
 use Rattle.std.specs.List.{list_all}
+use Rattle.std.specs.Option.{option_map_or}
 use Rattle.serde_json.specs.Data.{Data}
 use Rattle.serde_json.specs.Find.{as_str}
 use Rattle.serde_json.specs.Written.{compact_text}
@@ -15,6 +16,10 @@ is_whole d = is_some (as_whole d)
 -- 1 to 64 whole numbers
 abbrev pub are_numbers : List Data → Bool
 are_numbers ds = nat_le 1 (length ds) && nat_le (length ds) 64 && list_all is_whole ds
+
+-- a text or an array of numbers, whose record has the value's own text
+abbrev pub is_kept : Data → Bool
+is_kept d = option_map_or are_numbers (as_items d) (is_some (as_str d))
 
 -- the text of an array of numbers, or of one number
 abbrev pub numbers_text : Option (List Data) → Data → Option (List ℕ)
