@@ -2,6 +2,7 @@
 //! once.
 #![tactic(auto)]
 
+mod input;
 mod logs;
 mod program;
 

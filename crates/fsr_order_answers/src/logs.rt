@@ -5,9 +5,10 @@ ghost use Rattle.fsr_order_answers.specs.Order.{IsAnswerInLines, IsOrderAnswer};
 ghost use Rattle.fsr_order_input.specs.Inputs.{input_text, IsByKind};
 ghost use Rattle.text_lines.specs.Words.{text_in};
 
+use crate::input::log_input;
 use fsr_keys_answers::order_by_keys;
 use fsr_log_answers::order_document;
-use fsr_order_input::{LogInput, log_input};
+use fsr_order_input::LogInput;
 use fsr_repeats_answers::order_exchanges;
 use program_runs::{Answer, Fault, Show};
 use read_line::has_repeats;

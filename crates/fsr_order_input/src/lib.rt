@@ -11,5 +11,5 @@ mod words;
 pub use command::{LogCommand, run_log};
 pub use input::take_log;
 pub use kinds::are_lines;
-pub use log::{LogInput, log_input};
+pub use log::LogInput;
 pub use words::show_of;
