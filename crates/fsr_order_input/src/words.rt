@@ -1,6 +1,6 @@
 //! The words of the program that has the command `order` alone.
 ghost use Rattle.std.specs.Prelude.{◌≡◌, map};
-ghost use Rattle.fsr_order_input.specs.Words.{plain_within, show_named, show_of, show_within};
+ghost use Rattle.fsr_order_input.specs.Words.{show_named, show_of, show_within};
 
 use program_runs::{Show, budget_of};
 use std::convert::AsStr;
@@ -42,19 +42,13 @@ fn show_within(word: &str, number: &str) -> Option<Show>
     ensures { result ≡ show_within word.now number.now }
 {
     match word {
-        "--budget" => plain_within(budget_of(number)),
+        "--budget" => match budget_of(number) {
+            Some(budget) => Some(Show {
+                budget,
+                ..Show::plain()
+            }),
+            None => None,
+        },
         _ => None,
-    }
-}
-
-fn plain_within(budget: Option<usize>) -> Option<Show>
-    ensures { result ≡ plain_within budget }
-{
-    match budget {
-        Some(budget) => Some(Show {
-            budget,
-            ..Show::plain()
-        }),
-        None => None,
     }
 }
