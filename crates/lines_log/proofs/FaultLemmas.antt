@@ -1,12 +1,13 @@
 -- The header or a later line is at fault.
-use Rattle.std.proofs.Common.{◌≡◌, ◌≢◌, ◌⊎◌, ◌∷◌, inl, inr, ℕ, List, Ok, Err, refl, ap, sym, ◌∙◌, subst}
+use Rattle.std.proofs.Common.{◌≡◌, ◌≢◌, ◌⊎◌, ◌∷◌, inl, inr, ℕ, List, Bool, length, Ok, Err, refl, ap, sym, ◌∙◌, subst}
 use Rattle.read_document.specs.declared.refusal.DocError.{DocError}
 use Rattle.read_document.specs.declared.refusal.DocError.TheVariants.{Kind, Law, Long, Missing, NoMemory, NotJson, Range, Shape}
 use Rattle.program_runs.specs.declared.fault.Fault.{Fault}
+use Rattle.text_lines.specs.Places.{line_at}
 use Rattle.text_lines.specs.Splits.{lines_of}
 use Rattle.read_line.specs.Lines.{Head, head_of}
-use Rattle.lines_log.specs.Faults.{IsBodyFault, IsLinesFault, refused_at}
-use Rattle.lines_log.specs.Logs.{LineRule, rule_in, text_of}
+use Rattle.lines_log.specs.Faults.{IsBodyFault, IsLineFault, IsLinesFault, refused_at}
+use Rattle.lines_log.specs.Logs.{judged_line, LineRule, rule_in, text_of}
 
 pub is_memory : (why : DocError) → (why ≡ NoMemory) ⊎ (why ≢ NoMemory)
 is_memory Long = inr (λ e. cc)
@@ -45,3 +46,17 @@ later_fault bytes text first body head rule f is_text split said limits wrong = 
   said = said;
   wrong = subst (λ (b : LineRule). IsBodyFault head.opening b (lines_of body) f) limits wrong;
 })))
+
+-- the line behind these was refused
+pub line_fault : (opening : List ℕ) (rule : LineRule) (lines : List (List ℕ)) (line : List ℕ) (last : Bool) (place : ℕ) (why : DocError)
+    (f : Fault) → place ≡ length lines → (why ≢ NoMemory → judged_line rule place last line ≡ Err why)
+    → f ≡ refused_at (line_at place) why → IsLineFault opening rule lines line last f
+line_fault opening rule lines line last place why f here refused told = by_cause (is_memory why)
+  where
+    by_cause : (why ≡ NoMemory) ⊎ (why ≢ NoMemory) → IsLineFault opening rule lines line last f
+    by_cause (inl e) = inl (told ∙ ap (refused_at (line_at place)) e)
+    by_cause (inr ne) = inr (inl (
+      why,
+      subst (λ (n : ℕ). judged_line rule n last line ≡ Err why) here (refused ne),
+      told ∙ ap (λ (n : ℕ). refused_at (line_at n) why) here,
+    ))

@@ -1,7 +1,7 @@
 -- One more line: its operation stands behind the others, with the number of its record.
 use Rattle.std.proofs.Common.{◌≡◌, ℕ, ◌<◌, List, [], ◌∷◌, ◌++◌, length, refl, ap, sym, ◌∙◌, arith, subst, slice_get, Some, None, Option, Ok}
-use Rattle.std.proofs.Common.{Bool, true, cond, ◌⊎◌, inl, inr, length-append, string_bytes, ◌+◌, ◌≤◌}
-use Rattle.std.specs.Prelude.{option_map, if◌then◌else◌, is_none, is_some, IsSome, ◌||◌, String}
+use Rattle.std.proofs.Common.{rules, Bool, true, cond, ◌⊎◌, inl, inr, length-append, string_bytes, ◌+◌, ◌≤◌}
+use Rattle.std.specs.Prelude.{IfSome, option_map, if◌then◌else◌, is_none, is_some, IsSome, ◌||◌, String}
 use Rattle.std.specs.declared.alloc.Global.{Global}
 use Rattle.std.proofs.lemmas.List.Sums.{count_by-le-length, sum_by-append}
 use Rattle.std.proofs.lemmas.Option.{same_Some, slice_get_within}
@@ -21,7 +21,7 @@ use Rattle.kept_lines.specs.Numbered.{AreNumbered}
 use Rattle.kept_lines.specs.declared.numbers.RecordNumbers.{RecordNumbers}
 use Rattle.kept_lines.specs.Tasks.{KnowsTasks, Overlap}
 use Rattle.kept_lines.specs.declared.numbering.Numbering.{Numbering}
-use Rattle.read_line.specs.Lines.{has_record, IsAllowed, op_seen}
+use Rattle.read_line.specs.Lines.{ends_later, has_record, IsAllowed, op_seen}
 use Rattle.read_line.specs.declared.line.LineOp.{LineOp}
 use Rattle.lines_log.specs.Faults.{IsLineFault, IsOverlap, told_of}
 use Rattle.kept_lines.specs.Reads.{KnowsReads}
@@ -165,6 +165,16 @@ item_there records o op may is counted =
     (ap (λ (e : Option ℕ). is_some e || is_write o.kind) (sym is.ends) ∙ ap (λ (k : Kind). is_some op.ends || is_write k) (sym is.kind)
     ∙ counted)
 
+later : (begin : ℕ) (ends : Option ℕ) → ends_later begin ends ≡ true → IfSome ends (λ end. begin ≤ end)
+later begin None is = tt
+later begin (Some end) is = search rules
+
+-- an operation doesn't end before it begins
+pub in_order : (records : List (List ℕ)) (o : LineOp) (op : Op ℕ) → IsAllowed o → IsNumberedOp records (op_seen o) op
+    → IfSome op.ends (λ end. op.starts ≤ end)
+in_order records o op may is = later op.starts op.ends
+    (ap (λ (b : ℕ). ends_later b op.ends) is.starts ∙ ap (ends_later o.begin) is.ends ∙ may.forwards)
+
 -- an operation overlaps one of its task
 pub overlapped : (opening : List ℕ) (lines : List (List ℕ)) (line : List ℕ) (last : Bool) (old : Reader) (numbers : RecordNumbers)
     (said : Op (List ℕ)) (next : Op ℕ) (place first second : ℕ) → (read : AreRead opening lines old)
@@ -192,4 +202,12 @@ pub judged_as : (rule : LineRule) (place count : ℕ) (last : Bool) (bytes : Lis
     → judged_line rule count last bytes ≡ Ok (Some (op_seen op))
 judged_as rule place count last bytes found op said is same =
     subst (λ (n : ℕ). judged_line rule n last bytes ≡ Ok (Some (op_seen op))) same
+    (said ∙ ap (λ (o : Option LineOp). Ok (option_map op_seen o)) is)
+
+-- what was said of the end at a place, at the number of the lines before it
+pub ended_as : (rule : LineRule) (place count : ℕ) (last : Bool) (bytes : List ℕ) (found : Option LineOp)
+    → judged_line rule place last bytes ≡ Ok (option_map op_seen found) → found ≡ None → place ≡ count
+    → judged_line rule count last bytes ≡ Ok None
+ended_as rule place count last bytes found said is same =
+    subst (λ (n : ℕ). judged_line rule n last bytes ≡ Ok None) same
     (said ∙ ap (λ (o : Option LineOp). Ok (option_map op_seen o)) is)

@@ -1,5 +1,5 @@
 -- The header and the body were read.
-use Rattle.std.proofs.Common.{◌∙◌, ◌≡◌, true, false, ap, inl, inr, string_bytes, sym}
+use Rattle.std.proofs.Common.{◌∙◌, ◌≡◌, true, false, ap, inl, inr, refl, string_bytes, sym}
 use Rattle.text_lines.specs.Splits.{lines_of}
 use Rattle.text_lines.specs.Words.{text_in, told}
 use Rattle.read_line.specs.Lines.{head_seen}
@@ -66,3 +66,30 @@ returns-in-Ok-finish-clause-log c =
     c.in-Ok-new.ensures.rule c.in-Ok-first_key.ensures)
     (c.in-Ok-read_body.ensures.read (string_bytes c.in-Ok-read_header.header.opening) c.in-Ok-new.ensures.read)
     c.unwrap_or-limit.ensures c.in-Ok-finish.ensures
+
+pub returns-then-is_end-clause-log : goal.returns-then-is_end-clause-log
+returns-then-is_end-clause-log c = tt
+
+pub returns-in-Err-read_header-clause-log : goal.returns-in-Err-read_header-clause-log
+returns-in-Err-read_header-clause-log c = tt
+
+pub returns-in-Err-read_body-clause-log : goal.returns-in-Err-read_body-clause-log
+returns-in-Err-read_body-clause-log c = tt
+
+pub returns-in-Ok-finish-clause-fault : goal.returns-in-Ok-finish-clause-fault
+returns-in-Ok-finish-clause-fault c = tt
+
+pub returns-in-Err : goal.returns-in-Err
+returns-in-Err c = record { log = tt; fault = inl refl }
+
+pub returns-in-Err-first_key : goal.returns-in-Err-first_key
+returns-in-Err-first_key c = record { log = tt; fault = inl refl }
+
+pub returns-in-Err-new : goal.returns-in-Err-new
+returns-in-Err-new c = record { log = tt; fault = inl refl }
+
+pub returns : goal.returns
+returns c = record { log = tt; fault = inl refl }
+
+pub read_body-requires-clause-known : goal.read_body-requires-clause-known
+read_body-requires-clause-known c = (string_bytes c.in-Ok-read_header.header.opening, c.in-Ok-new.ensures.read)
