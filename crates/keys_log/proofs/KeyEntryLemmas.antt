@@ -12,8 +12,8 @@ use Rattle.history_core.proofs.Places.{get_set_other}
 use Rattle.program_runs.specs.declared.fault.Fault.{Fault}
 use Rattle.read_line.specs.Lines.{Head, head_seen, op_seen}
 use Rattle.read_line.specs.declared.line.LineOp.{LineOp}
-use Rattle.kept_lines.specs.declared.numbering.Numbering.{Numbering}
-use Rattle.kept_lines.specs.Numberings.{IsNumbering}
+use Rattle.kept_lines.specs.declared.numbers.RecordNumbers.{RecordNumbers}
+use Rattle.kept_lines.specs.Numbered.{AreNumbered}
 use Rattle.keys_log.specs.KeyFaults.{IsKeyedFault}
 use Rattle.keys_log.specs.Keys.{is_of, key_on, keys_in, lines_of_key, rule_for, with_key}
 use Rattle.lines_log.specs.Logs.{judged_line}
@@ -24,7 +24,6 @@ use Rattle.keys_log.specs.declared.key_reader.KeyReader.{KeyReader}
 use Rattle.keys_log.specs.declared.keys_reader.KeysReader.{KeysReader}
 use Rattle.keys_log.proofs.KeyLemmas.{judged_anywhere, names_at, one_key_more, same_as_itself, same_is}
 use Rattle.keys_log.proofs.KeyReadLemmas.{key_read_other}
-use Rattle.lines_log.proofs.ReadLemmas.{distinct}
 
 pub read_at : (head : Head) (lines : List (List ℕ)) (key : Option (List ℕ)) (readers : List KeyReader) (number : ℕ) (one : KeyReader)
     → slice_get readers number ≡ Some one → IsReadAt head lines key readers number → IsKeyRead head lines key one
@@ -70,10 +69,10 @@ set_at (x ∷ xs) zero r within = refl
 set_at (x ∷ xs) (suc m) r within = set_at xs m r (omega (arith, within))
 
 -- a key has one number
-one_number : (keys : List (Option (List ℕ))) (numbering : Numbering) (key : Option (List ℕ)) (i n : ℕ)
-    → IsNumbering (names_of keys) numbering → slice_get keys i ≡ Some key → slice_get keys n ≡ Some key → i ≡ n
+one_number : (keys : List (Option (List ℕ))) (numbering : RecordNumbers) (key : Option (List ℕ)) (i n : ℕ)
+    → AreNumbered (names_of keys) numbering → slice_get keys i ≡ Some key → slice_get keys n ≡ Some key → i ≡ n
 one_number keys numbering key i n numbers at_i at_n =
-    distinct (names_of keys) numbering numbers (name_of key) i n (names_at keys i key at_i) (names_at keys n key at_n)
+    numbers.distinct (name_of key) i n (names_at keys i key at_i) (names_at keys n key at_n)
 
 pub entered_key : (head : Head) (first : Option (List ℕ)) (lines : List (List ℕ)) (line : List ℕ) (n : ℕ) (old new : KeysReader)
     → HaveKeys head lines (with_key (keys_in first lines) (key_on line)) old
@@ -86,7 +85,7 @@ entered_key head first lines line n old new have at entered header numbering cou
     let more : keys_in first (lines ++ line ∷ []) ≡ keys = one_key_more (first ∷ []) lines line in
     let here : HaveKeys head (lines ++ line ∷ []) keys new = record {
       heads = ap head_seen header ∙ have.heads;
-      numbers = subst (λ z. IsNumbering (names_of keys) z) (sym numbering) have.numbers;
+      numbers = subst (λ z. AreNumbered (names_of keys) z) (sym numbering) have.numbers;
       long = ap length entered.1 ∙ length-set old.readers.items n entered.0 ∙ have.long;
       each = λ i k one at_k at_one.
           by_place i k one at_k (ap (λ rs. slice_get rs i) (sym entered.1) ∙ at_one) (cases_eq i n) have at;

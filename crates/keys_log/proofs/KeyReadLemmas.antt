@@ -8,8 +8,9 @@ use Rattle.history_core.specs.declared.history.Op.{Op}
 use Rattle.program_runs.specs.declared.fault.Fault.{Fault}
 use Rattle.program_runs.specs.declared.fault.Fault.TheVariants.{NoMemory}
 use Rattle.read_line.specs.Lines.{Head, head_seen}
-use Rattle.kept_lines.specs.Numberings.{GaveNumber, IsNumbering, MeetsRecord}
-use Rattle.kept_lines.specs.declared.numbering.Numbering.{Numbering}
+use Rattle.kept_lines.specs.Numbered.{AreNumbered, GaveRecord}
+use Rattle.kept_lines.specs.Numberings.{MeetsRecord}
+use Rattle.kept_lines.specs.declared.numbers.RecordNumbers.{RecordNumbers}
 use Rattle.lines_log.specs.Faults.{IsLineFault}
 use Rattle.keys_log.specs.KeyFaults.{in_whole}
 use Rattle.keys_log.specs.Keys.{is_met, is_of, lines_of_key, places_of_key, rule_for, with_key}
@@ -23,7 +24,6 @@ use Rattle.keys_log.specs.declared.keys_reader.KeysReader.{KeysReader}
 use Rattle.keys_log.proofs.KeyLemmas.{met_at, met_where, names_at, names_from, of_more, of_other}
 use Rattle.keys_log.proofs.KeyLemmas.{places_more}
 use Rattle.keys_log.proofs.KeyLemmas.{places_other, with_met, with_new}
-use Rattle.lines_log.proofs.ReadLemmas.{distinct}
 
 -- ---- the reader of a key
 
@@ -67,7 +67,7 @@ key_read_none head lines key reader begun none nowhere = record {
 
 -- no line was read yet, but the key of the first one
 pub keys_none : (head : Head) (key : Option (List ℕ)) (one : KeyReader) (reader : KeysReader) → head_seen reader.header ≡ head
-    → IsNumbering (name_of key ∷ []) reader.numbering → reader.readers.items ≡ one ∷ [] → IsKeyBegun head key one → reader.count ≡ 0
+    → AreNumbered (name_of key ∷ []) reader.numbering → reader.readers.items ≡ one ∷ [] → IsKeyBegun head key one → reader.count ≡ 0
     → HaveKeys head [] (key ∷ []) reader
 keys_none head key one reader heads numbers readers begun count = record {
   heads = heads;
@@ -124,13 +124,13 @@ IsMetOrNew keys key n =
     ⊎ ((is_met keys key ≡ false) × (with_key keys key ≡ keys ++ key ∷ []) × (n ≡ length keys))
 
 -- a key got its number
-pub record IsNumberedKey (keys : List (Option (List ℕ))) (key : Option (List ℕ)) (n : ℕ) (numbering : Numbering) : Type 0 where
-  pub numbers : IsNumbering (names_of (with_key keys key)) numbering
+pub record IsNumberedKey (keys : List (Option (List ℕ))) (key : Option (List ℕ)) (n : ℕ) (numbering : RecordNumbers) : Type 0 where
+  pub numbers : AreNumbered (names_of (with_key keys key)) numbering
   pub at : slice_get (with_key keys key) n ≡ Some key
   pub is : IsMetOrNew keys key n
 
-pub numbered_key : (keys : List (Option (List ℕ))) (key : Option (List ℕ)) (name : List ℕ) (n : ℕ) (numbering : Numbering)
-    → name ≡ name_of key → GaveNumber (names_of keys) name n numbering → IsNumberedKey keys key n numbering
+pub numbered_key : (keys : List (Option (List ℕ))) (key : Option (List ℕ)) (name : List ℕ) (n : ℕ) (numbering : RecordNumbers)
+    → name ≡ name_of key → GaveRecord (names_of keys) name n numbering → IsNumberedKey keys key n numbering
 numbered_key keys key name n numbering is gave = by_meeting gave.meets
   where
     at : slice_get gave.after n ≡ Some (name_of key)
@@ -146,7 +146,7 @@ numbered_key keys key name n numbering is gave = by_meeting gave.meets
         ap (λ (l : List (List ℕ)). slice_get l (length (names_of keys))) more
         ∙ get_last (names_of keys) (name_of key) (length (names_of keys)) refl in
         let same : where_met.0 ≡ length (names_of keys) =
-        distinct gave.after numbering gave.numbers (name_of key) where_met.0 (length (names_of keys)) known last in
+        gave.numbered.distinct (name_of key) where_met.0 (length (names_of keys)) known last in
         let within : where_met.0 < length keys = slice_get_within keys where_met.0 key where_met.1 in
         let long : length (names_of keys) ≡ length keys = names_long keys in
         absurd (omega (arith, same, within, long))
@@ -155,11 +155,11 @@ numbered_key keys key name n numbering is gave = by_meeting gave.meets
         ap (λ (l : List (List ℕ)). slice_get l (length (names_of keys))) more
         ∙ get_last (names_of keys) (name_of key) (length (names_of keys)) refl in
         let same : n ≡ length keys =
-        distinct gave.after numbering gave.numbers (name_of key) n (length (names_of keys)) at last ∙ names_long keys in
+        gave.numbered.distinct (name_of key) n (length (names_of keys)) at last ∙ names_long keys in
         let grown : with_key keys key ≡ keys ++ key ∷ [] = with_new keys key new in
         record {
-          numbers = subst (λ (l : List (List ℕ)). IsNumbering l numbering)
-              (more ∙ sym (names_more keys key) ∙ ap names_of (sym grown)) gave.numbers;
+          numbers = subst (λ (l : List (List ℕ)). AreNumbered l numbering)
+              (more ∙ sym (names_more keys key) ∙ ap names_of (sym grown)) gave.numbered;
           at = ap (λ ks. slice_get ks n) grown ∙ get_last keys key n same;
           is = inr (new, grown, same);
         }
@@ -170,7 +170,7 @@ numbered_key keys key name n numbering is gave = by_meeting gave.meets
         names_from keys n key (ap (λ (l : List (List ℕ)). slice_get l n) (sym same) ∙ at) in
         let kept : with_key keys key ≡ keys = with_met keys key (met_at keys n key here) in
         record {
-          numbers = subst (λ (l : List (List ℕ)). IsNumbering l numbering) (same ∙ ap names_of (sym kept)) gave.numbers;
+          numbers = subst (λ (l : List (List ℕ)). AreNumbered l numbering) (same ∙ ap names_of (sym kept)) gave.numbered;
           at = ap (λ ks. slice_get ks n) kept ∙ here;
           is = inl (kept, slice_get_within keys n key here);
         }

@@ -9,7 +9,7 @@ ghost use Rattle.read_line.specs.Lines.{Head, head_seen, IsAllowed, op_seen};
 use crate::key_name::{copied, name_of};
 use crate::key_reader::KeyReader;
 use crate::own_line::read_own;
-use kept_lines::Numbering;
+use kept_lines::RecordNumbers;
 use lines_log::{Reader, refused_at};
 use program_runs::Fault;
 use read_line::{LineOp, LogHeader};
@@ -21,7 +21,7 @@ use text_lines::line_at;
 pub(crate) struct KeysReader {
     pub header: LogHeader,
     /// The number of each key that was met, by its name.
-    pub numbering: Numbering,
+    pub numbering: RecordNumbers,
     /// What was read of each of them, by its number.
     pub readers: Vec<KeyReader>,
     /// How many operations there were.
@@ -43,7 +43,7 @@ impl KeysReader {
         ensures read { IfOk result (AreKeysRead (head_seen header) (option_map string_bytes key) []) }
     {
         let name = name_of(alloc, &key)?;
-        let numbering = Numbering::new(alloc, name)?;
+        let numbering = RecordNumbers::new(alloc, name.as_bytes())?;
         let first = begun(alloc, &header, &key)?;
         let mut readers = Vec::new(alloc);
         readers.push(first)?;
@@ -117,7 +117,7 @@ impl KeysReader {
         ensures same { OnOk result (self.new.count ≡ self.old.count) }
     {
         let name = name_of(alloc, key)?;
-        let number = self.numbering.number(name)?;
+        let number = self.numbering.number(name.as_bytes())?;
         if number == self.readers.len() {
             let next = begun(alloc, &self.header, key)?;
             self.readers.push(next)?;

@@ -6,7 +6,7 @@ use Rattle.program_runs.specs.declared.fault.Fault.{Fault}
 use Rattle.program_runs.specs.declared.fault.Fault.TheVariants.{NoMemory}
 use Rattle.text_lines.specs.Splits.{lines_of}
 use Rattle.read_line.specs.Lines.{Head, head_seen}
-use Rattle.kept_lines.specs.Numberings.{IsNumbering}
+use Rattle.kept_lines.specs.Numbered.{AreNumbered}
 use Rattle.keys_log.specs.KeyFaults.{IsFaultInKey}
 use Rattle.keys_log.specs.Keys.{is_met, is_of, keys_in, lines_of_key, places_of_key, rule_for}
 use Rattle.lines_log.specs.Logs.{AreAll, first_key, judged_line, rule_in}
@@ -59,7 +59,7 @@ IsKeyFault head lines key line f = (f ≡ NoMemory) ⊎ IsFaultInKey head lines 
 pub record HaveKeys (head : Head) (lines : List (List ℕ)) (keys : List (Option (List ℕ)))
     (reader : KeysReader) : Type 0 where
   pub heads : head_seen reader.header ≡ head
-  pub numbers : IsNumbering (names_of keys) reader.numbering
+  pub numbers : AreNumbered (names_of keys) reader.numbering
   pub long : length reader.readers.items ≡ length keys
   pub each : (i : ℕ) (key : Option (List ℕ)) (one : KeyReader) → slice_get keys i ≡ Some key →
       slice_get reader.readers.items i ≡ Some one → IsKeyRead head lines key one
