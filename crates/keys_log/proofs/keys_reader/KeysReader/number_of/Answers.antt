@@ -18,19 +18,19 @@ returns-clause-known c = λ head lines keys have no_line.
     (c.as_bytes.ensures.value ∙ c.in_ok-name.ensures) (c.in_ok-number.ensures (names_of keys) have.numbers) in
     elim c.if-number-len.branch [
       | then-number-len+in_ok-next+in_ok-push w ↦
-        let last : c.in_ok-number.number ≡ length keys =
-        w.if-number-len.true ∙ c.len.ensures ∙ c.args.self.now.readers.ok.0 ∙ have.long in
-        let begun = subst (λ (h : Head). IsKeyBegun h key w.in_ok-next.next) have.heads w.in_ok-next.ensures in (
-          subst (λ z. HaveKeys head lines (with_key keys key) z) (sym w.self-is)
-              (have_new head lines keys key c.in_ok-number.number c.args.self.now _ w.in_ok-next.next have no_line numbered last begun
-              refl w.in_ok-push.ensures.items refl),
-          numbered.at,
-        )
+          let last : c.in_ok-number.number ≡ length keys =
+          w.if-number-len.true ∙ c.len.ensures ∙ c.args.self.now.readers.ok.0 ∙ have.long in
+          let begun = subst (λ (h : Head). IsKeyBegun h key w.in_ok-next.next) have.heads w.in_ok-next.ensures in (
+            subst (λ z. HaveKeys head lines (with_key keys key) z) (sym w.self-is)
+                (have_new head lines keys key c.in_ok-number.number c.args.self.now _ w.in_ok-next.next have no_line numbered last begun
+                refl w.in_ok-push.ensures.items refl),
+            numbered.at,
+          )
       | else-number-len w ↦ (
-          subst (λ z. HaveKeys head lines (with_key keys key) z) (sym w.self-is)
-              (have_met head lines keys key c.in_ok-number.number c.args.self.now _ have numbered
-              (λ e. w.if-number-len.false (e ∙ sym have.long ∙ sym c.args.self.now.readers.ok.0 ∙ sym c.len.ensures))
-              refl refl refl),
-          numbered.at,
-        )
+        subst (λ z. HaveKeys head lines (with_key keys key) z) (sym w.self-is)
+            (have_met head lines keys key c.in_ok-number.number c.args.self.now _ have numbered
+            (λ e. w.if-number-len.false (e ∙ sym have.long ∙ sym c.args.self.now.readers.ok.0 ∙ sym c.len.ensures))
+            refl refl refl),
+        numbered.at,
+      )
     ]
