@@ -6,7 +6,7 @@ use Rattle.std.proofs.lemmas.Option.{slice_get_within}
 use Rattle.history_core.proofs.Places.{get_last, get_pushed_cases, get_stays}
 use Rattle.object_core.specs.declared.operation.Operation.{Operation}
 use Rattle.object_registers.specs.declared.exchanging.Exchange.{Exchange}
-use Rattle.kept_lines.specs.Numberings.{IsNumbering}
+use Rattle.exchanges_log.specs.Numberings.{IsNumbering}
 use Rattle.lines_log.specs.Logs.{LineRule}
 use Rattle.lines_log.specs.inner.Numbers.{Grow}
 use Rattle.read_exchange.specs.Exchanges.{exchange_seen, finds, gets, misses, refuses, SaidExchange, sets, swaps, tries}

@@ -4,8 +4,9 @@ use Rattle.std.proofs.Common.{inl, inr, zero, suc}
 use Rattle.history_core.proofs.Places.{get_last, get_pushed_cases, get_stays}
 use Rattle.object_registers.specs.declared.exchanging.Exchange.{Exchange}
 use Rattle.object_registers.specs.declared.exchanging.Exchange.TheVariants.{Gets, Finds}
-use Rattle.kept_lines.specs.Numberings.{GaveNumber, IsNumbering, MeetsRecord}
-use Rattle.kept_lines.specs.declared.numbering.Numbering.{Numbering}
+use Rattle.kept_lines.specs.Numberings.{MeetsRecord}
+use Rattle.exchanges_log.specs.Numberings.{GaveNumber, IsNumbering}
+use Rattle.exchanges_log.specs.declared.numbering.Numbering.{Numbering}
 use Rattle.lines_log.specs.inner.Numbers.{Grow}
 use Rattle.read_exchange.specs.Exchanges.{SaidExchange, gets, finds}
 use Rattle.exchanges_log.specs.ExchangeLogs.{MeansExchange, texts_of}

@@ -16,7 +16,7 @@ use Rattle.read_line.specs.Lines.{Head, head_of}
 use Rattle.lines_log.specs.Logs.{LineRule, same_key, text_of}
 use Rattle.lines_log.proofs.BodyLemmas.{end_is, last_of_rest, none_left}
 use Rattle.lines_log.proofs.FaultLemmas.{is_memory}
-use Rattle.lines_log.proofs.ReadLemmas.{distinct}
+use Rattle.exchanges_log.proofs.NumberingLemmas.{distinct}
 use Rattle.read_exchange.specs.Exchanges.{done, entry_of, ExchangeEntry, is_refusal, operation, SaidExchange}
 use Rattle.exchanges_log.specs.ExchangeFaults.{IsExchangeFault, IsExchangesBodyFault, IsExchangesFault}
 use Rattle.exchanges_log.specs.ExchangeLogs.{AreAllExchanges, AreExchangeLines, first_key, IsExchangesLog, judged, judged_line}

@@ -2,8 +2,8 @@
 use Rattle.std.specs.Prelude.{◌≡◌, ◌⊎◌, ℕ, List, [], ◌∷◌, slice_get, Some}
 use Rattle.object_core.specs.declared.operation.Operation.{Operation}
 use Rattle.object_registers.specs.declared.exchanging.Exchange.{Exchange}
-use Rattle.kept_lines.specs.Numberings.{IsNumbering}
-use Rattle.kept_lines.specs.declared.numbering.Numbering.{Numbering}
+use Rattle.exchanges_log.specs.Numberings.{IsNumbering}
+use Rattle.exchanges_log.specs.declared.numbering.Numbering.{Numbering}
 use Rattle.lines_log.specs.inner.Numbers.{Grow}
 use Rattle.read_exchange.specs.Exchanges.{SaidExchange}
 use Rattle.exchanges_log.specs.ExchangeLogs.{IsNumberedExchange, MeansExchange, texts_of}

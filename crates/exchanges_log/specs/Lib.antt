@@ -1,4 +1,5 @@
 pub mod ExchangeFaults
 pub mod ExchangeLogs
 pub mod ExchangeNumbers
+pub mod Numberings
 pub mod inner

@@ -8,8 +8,10 @@ pub mod laws;
 mod line;
 mod log;
 mod number;
+mod numbering;
 mod reader;
 
 pub use exchanges_log::ExchangesLog;
 pub use log::read_exchanges;
 pub use number::number_op;
+pub use numbering::Numbering;

@@ -1,10 +1,10 @@
 //! Numbers in place of records.
 ghost use Rattle.std.specs.Prelude.{[], ◌∷◌, ℕ, List, IfOk, string_bytes};
-ghost use Rattle.kept_lines.specs.Numberings.{IsNumbering};
 ghost use Rattle.read_exchange.specs.Exchanges.{exchange_seen, what_seen};
 ghost use Rattle.exchanges_log.specs.ExchangeNumbers.{GaveNumbers, IsExchangeNow, IsOperationNow};
+ghost use Rattle.exchanges_log.specs.Numberings.{IsNumbering};
 
-use kept_lines::Numbering;
+use crate::numbering::Numbering;
 use lines_log::fitted;
 use object_core::Operation;
 use object_registers::Exchange;

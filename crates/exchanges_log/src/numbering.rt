@@ -12,7 +12,7 @@ pub struct Numbering {
 }
 
 impl Numbering {
-    ghost use Rattle.kept_lines.specs.Numberings.{GaveNumber, IsNumbering};
+    ghost use Rattle.exchanges_log.specs.Numberings.{GaveNumber, IsNumbering};
 
     /// The opening has number 0.
     pub fn new(alloc: Global, opening: String) -> Result<Numbering, AllocError>

@@ -7,7 +7,7 @@ ghost use Rattle.read_exchange.specs.Exchanges.{exchange_seen};
 
 use crate::line::read_op;
 use crate::number::number_op;
-use kept_lines::Numbering;
+use crate::numbering::Numbering;
 use lines_log::refused_at;
 use object_core::Operation;
 use object_registers::Exchange;

@@ -6,7 +6,6 @@ mod hash;
 mod keys_log;
 mod lines_log;
 mod links;
-mod numbering;
 mod numbers;
 mod reads;
 mod texts;
@@ -14,7 +13,6 @@ mod turns;
 
 pub use keys_log::{KeyLog, KeysLog};
 pub use lines_log::LinesLog;
-pub use numbering::Numbering;
 pub use numbers::RecordNumbers;
 pub use reads::Reads;
 pub use turns::{Last, TurnError, Turns};

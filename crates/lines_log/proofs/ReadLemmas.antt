@@ -16,11 +16,9 @@ use Rattle.history_core.specs.declared.reason.SearchError.{SearchError}
 use Rattle.history_thinning.specs.Answers.{IsThinnedFault}
 use Rattle.history_core.proofs.Places.{get_pushed_cases}
 use Rattle.history_core.specs.declared.history.Op.{Op}
-use Rattle.kept_lines.specs.Numberings.{AreDistinct, IsNumbering}
 use Rattle.kept_lines.specs.Numbered.{AreNumbered}
 use Rattle.kept_lines.specs.declared.numbers.RecordNumbers.{RecordNumbers}
 use Rattle.kept_lines.specs.Tasks.{KnowsTasks, Overlap}
-use Rattle.kept_lines.specs.declared.numbering.Numbering.{Numbering}
 use Rattle.read_line.specs.Lines.{ends_later, has_record, IsAllowed, op_seen}
 use Rattle.read_line.specs.declared.line.LineOp.{LineOp}
 use Rattle.lines_log.specs.Faults.{IsLineFault, IsOverlap, told_of}
@@ -113,10 +111,6 @@ entered opening lines line last old new said next read judged limits numbered tu
           ∙ sym (one_unfinished read.log next);
       reads = gives read.reads;
     }
-
--- of records that have their numbers none stands twice
-pub distinct : (records : List (List ℕ)) (numbering : Numbering) → IsNumbering records numbering → AreDistinct records
-distinct records numbering numbers = λ text m n at_m at_n. same_Some m n (sym (numbers.known text m at_m) ∙ numbers.known text n at_n)
 
 pub entry_fault : (log : List (Op ℕ)) (error : SearchError) (f : Fault) → IsThinnedFault log error → (f ≡ NoMemory) ⊎ (f ≡ told_of error)
     → IsEntryFault log f

@@ -2,7 +2,7 @@
 use Rattle.std.specs.Prelude.{◌≡◌, ℕ, List, [], ◌∷◌, ◌++◌, length, Bool, true, false, slice_get}
 use Rattle.std.specs.Prelude.{None, Some, Option, Ok, option_map, string_bytes}
 use Rattle.text_lines.specs.Splits.{lines_of}
-use Rattle.kept_lines.specs.Numberings.{IsNumbering}
+use Rattle.exchanges_log.specs.Numberings.{IsNumbering}
 use Rattle.lines_log.specs.Logs.{LineRule}
 use Rattle.exchanges_log.specs.ExchangeLogs.{AreAllExchanges, AreExchangeLines, judged_line}
 use Rattle.exchanges_log.specs.ExchangeLogs.{uncertain_in, unfinished_in}

@@ -1,8 +1,9 @@
 -- The opening is the one record that was met.
 use Rattle.std.proofs.Common.{◌≡◌, ℕ, List, [], ◌∙◌, None, refl, string_bytes}
 use Rattle.std.proofs.lemmas.Map.Text.{btree_map_updates_text}
-use Rattle.kept_lines.proofs.NumberLemmas.{none_there, none_yet, one_longer, one_more}
-use Rattle.kept_lines.proofs.numbering.Numbering.new.Goals as goal
+use Rattle.kept_lines.proofs.NumberLemmas.{none_there}
+use Rattle.exchanges_log.proofs.NumberingLemmas.{none_yet, one_longer, one_more}
+use Rattle.exchanges_log.proofs.numbering.Numbering.new.Goals as goal
 
 pub returns : goal.returns
 returns c =

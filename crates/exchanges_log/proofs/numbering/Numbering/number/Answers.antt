@@ -2,8 +2,9 @@
 use Rattle.std.proofs.Common.{◌≡◌, ℕ, List, [], ◌∷◌, ◌++◌, inl, inr, None, refl, string_bytes, sym, ap, ◌∙◌, length, slice_get}
 use Rattle.std.specs.BTreeMap.{get_by_text}
 use Rattle.std.proofs.lemmas.Map.Text.{btree_map_updates_text}
-use Rattle.kept_lines.proofs.NumberLemmas.{get_last, one_longer, one_more}
-use Rattle.kept_lines.proofs.numbering.Numbering.number.Goals as goal
+use Rattle.kept_lines.proofs.NumberLemmas.{get_last}
+use Rattle.exchanges_log.proofs.NumberingLemmas.{one_longer, one_more}
+use Rattle.exchanges_log.proofs.numbering.Numbering.number.Goals as goal
 
 pub returns-in-Some : goal.returns-in-Some
 returns-in-Some c = λ records numbers. record {
