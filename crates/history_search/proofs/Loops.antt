@@ -14,7 +14,7 @@ use Rattle.std.proofs.lemmas.Option.{slice_get_within, same_Some, slice_get-get_
 use Rattle.history_core.specs.declared.history.Op.{Op}
 use Rattle.history_core.specs.declared.history.Kind.{Kind}
 use Rattle.history_core.specs.declared.history.Kind.TheVariants.{Write, Read, Refused}
-use Rattle.history_core.specs.Orders.{times_of, writes_in}
+use Rattle.history_core.specs.Orders.{is_write, is_write_at, times_of, writes_in}
 use Rattle.history_core.proofs.Listed.{some_and_from, some_and_of}
 use Rattle.history_core.proofs.Listing.{times_nowhere}
 use Rattle.history_core.proofs.Places.{get_pushed_cases, get_last, get_stays, get_set_other, get_set_same}
@@ -26,7 +26,7 @@ use Rattle.history_search.specs.inner.Groups.{AreSpans, earlier_moment, empty_sp
 use Rattle.history_search.specs.inner.Groups.{later_moment}
 use Rattle.history_search.specs.inner.Groups.{Member, refused_at}
 use Rattle.history_search.specs.inner.Found.{EndsBefore, IsEarlyIn, NoneEarlyIn, NoneEndsBefore, NoneStaleIn}
-use Rattle.history_search.specs.inner.Limits.{IsFirstRefusal, NoneRefused}
+use Rattle.history_search.specs.inner.Limits.{IsFirstRefusal, kind_or, NoneRefused}
 use Rattle.history_search.specs.inner.Ranks.{AreRanks, ends_at, IsRank, IsTurned, later_rank, NoneTurned, stands_in}
 use Rattle.history_search.proofs.Ranks.{places_of, rank_at}
 
@@ -165,6 +165,19 @@ module _ {R : Type 0} (ops : List (Op R)) where
       picked false t = (h.k, h.at, omega (arith, h.near))
 
 -- ---- the first refused write
+pub refused_kind : {R : Type 0} (found : Option (Op R)) → Refused ≡ kind_or found → IsSomeAnd found (λ o. o.kind ≡ Refused)
+refused_kind None h = cc
+refused_kind (Some o) h = sym h
+
+pub other_kind : {R : Type 0} (found : Option (Op R)) (kind : Kind) → kind ≡ kind_or found → (kind ≡ Refused → ⊥) →
+    IsSomeAnd found (λ o. o.kind ≡ Refused) → ⊥
+other_kind None kind e other h = h
+other_kind (Some o) kind e other h = other (e ∙ h)
+
+pub write_kind : {R : Type 0} (found : Option (Op R)) (kind : Kind) → kind ≡ kind_or found → is_write kind ≡ is_write_at found
+write_kind None kind e = ap is_write e
+write_kind (Some o) kind e = ap is_write e
+
 module _ {R : Type 0} (ops : List (Op R)) (order : List ℕ) where
   pub none_refused : (n p : ℕ) → slice_get order n ≡ Some p → (IsSomeAnd (slice_get ops p) (λ o. o.kind ≡ Refused) → ⊥) →
       NoneRefused ops order n → NoneRefused ops order (n + 1)
@@ -174,10 +187,6 @@ module _ {R : Type 0} (ops : List (Op R)) (order : List ℕ) where
         let same_place : q ≡ p = same_Some q p (sym f ∙ ap (slice_get order) s ∙ e) in
         other (some_and_from (λ (z : Op R). z.kind ≡ Refused) (slice_get ops p) o (ap (slice_get ops) (sym same_place) ∙ g) k)
   ]
-
-  pub few_more : (b : Bool) (n m : ℕ) → n ≤ m → n + (if b then 1 else 0) ≤ m + 1
-  few_more true n m le = omega arith
-  few_more false n m le = omega arith
 
   pub refusal_at : (n p writes : ℕ) → slice_get order n ≡ Some p → IsSomeAnd (slice_get ops p) (λ o. o.kind ≡ Refused) →
       NoneRefused ops order n → writes ≡ writes_in (λ _. true) ops (take n order) → IsFirstRefusal ops order n p writes

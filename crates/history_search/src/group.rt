@@ -7,7 +7,6 @@ ghost use Rattle.std.specs.Prelude.{Some};
 ghost use Rattle.std.specs.BTreeMap.{get, Updates};
 ghost use Rattle.history_search.specs.inner.Groups.{AreGroups, group_in, HaveGroups, IsUngrouped, IsWriteFault};
 ghost use Rattle.history_search.specs.inner.Groups.{KnowsWrites, written_by};
-ghost use Rattle.history_core.specs.Reasons.{counts};
 ghost use Rattle.history_core.specs.Searches.{IsGroupFault, WritesOnce};
 
 use history_core::{Kind, Op, SearchError};
@@ -85,23 +84,21 @@ fn add_write<R: Copy + Ord>(
     if written == opening {
         return Err(SearchError::WritesOpening { place });
     }
-    if let Some(group) = writes.get(&written) {
-        let first = group.saturating_sub(1);
-        return Err(SearchError::WritesTwice {
-            first,
-            second: place,
-        });
-    }
     match writes.insert(written, place + 1) {
-        Ok(_) => Ok(()),
+        Ok(None) => Ok(()),
+        Ok(Some(group)) => Err(SearchError::WritesTwice {
+            first: group.saturating_sub(1),
+            second: place,
+        }),
         Err(_) => Err(SearchError::NoMemory),
     }
 }
 
+/// The group of an operation, if it is finished or a write.
 fn group_of<R: Copy + Ord>(opening: R, writes: &BTreeMap<R, usize>, op: &Op<R>) -> Option<usize>
     ensures { result ≡ group_in R.eq R.cmp opening writes.now op.now }
 {
-    if !counts(op) {
+    if op.ends.is_none() && op.kind != Kind::Write {
         return None;
     }
     let record = op.item?;
@@ -111,13 +108,6 @@ fn group_of<R: Copy + Ord>(opening: R, writes: &BTreeMap<R, usize>, op: &Op<R>) 
     writes.get(&record).copied()
 }
 
-/// Whether an operation is finished, or a write.
-fn counts<R>(op: &Op<R>) -> bool
-    ensures { result ≡ counts op.now }
-{
-    op.ends.is_some() || op.kind == Kind::Write
-}
-
 /// The first finished operation without a group.
 pub(crate) fn first_ungrouped<R>(ops: &[Op<R>], groups: &[Option<usize>]) -> Option<usize>
     requires { length groups.now ≡ length ops.now }
@@ -125,15 +115,9 @@ pub(crate) fn first_ungrouped<R>(ops: &[Op<R>], groups: &[Option<usize>]) -> Opt
     ensures none { IfNone result (HaveGroups ops.now groups.now (length ops.now)) }
 {
     for place in 0..ops.len() {
-        if lacks_group(&ops[place], groups[place]) {
+        if ops[place].ends.is_some() && groups[place].is_none() {
             return Some(place);
         }
     }
     None
-}
-
-fn lacks_group<R>(op: &Op<R>, group: Option<usize>) -> bool
-    ensures { IsTrue result ↔ (IsSome op.now.ends × (group ≡ None)) }
-{
-    op.ends.is_some() && group.is_none()
 }

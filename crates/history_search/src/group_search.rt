@@ -1,12 +1,10 @@
 //! The search over groups: ranks, then crossings, and where the limit wants it the late groups last.
 
-ghost use Rattle.std.specs.Prelude.{◌≡◌, ◌<◌, ◌≤◌, ◌↔◌, ℕ, length, IfNone, IfOk, IfSome, IsSomeAnd, IsTrue, None};
-ghost use Rattle.std.specs.Prelude.{Some, slice_get, if◌then◌else◌};
-ghost use Rattle.history_core.specs.declared.history.Kind.TheVariants.{Refused};
-ghost use Rattle.history_core.specs.Orders.{is_write_at};
+ghost use Rattle.std.specs.Prelude.{◌≡◌, ◌<◌, ◌≤◌, ℕ, length, IfNone, IfOk, IfSome, None, Some, slice_get};
 ghost use Rattle.history_search.specs.inner.Found.{AreStraight, HasEnough, HasTooFew, IsFound};
 ghost use Rattle.history_search.specs.inner.Found.{IsGroupSearch, refused_in};
 ghost use Rattle.history_search.specs.inner.Groups.{spans_in};
+ghost use Rattle.history_search.specs.inner.Limits.{kind_or};
 ghost use Rattle.history_search.specs.inner.Ranks.{ranks_in};
 
 use crate::cut::late_end;
@@ -94,7 +92,10 @@ fn order_late<R>(
 fn refused_in(span: Option<Span>) -> Option<usize>
     ensures { result ≡ refused_in span }
 {
-    span?.refused
+    match span {
+        Some(span) => span.refused,
+        None => None,
+    }
 }
 
 /// The first refused write of an order, where it has fewer writes before it than the limit.
@@ -105,28 +106,21 @@ fn first_too_few<R>(ops: &[Op<R>], order: &[usize], limit: u64) -> Option<usize>
     let mut writes: u64 = 0;
     for i in 0..order.len() {
         let place = order[i];
-        if is_refused(ops, place) {
-            return if writes < limit { Some(place) } else { None };
+        match kind_at(ops, place) {
+            Kind::Refused => return if writes < limit { Some(place) } else { None },
+            Kind::Write => writes += 1,
+            Kind::Read => {}
         }
-        writes += writes_at(ops, place);
     }
     None
 }
 
-fn is_refused<R>(ops: &[Op<R>], place: usize) -> bool
-    ensures { IsTrue result ↔ IsSomeAnd (slice_get ops.now place) (λ o. o.kind ≡ Refused) }
+/// The kind of the operation at a place. Where there is none it is a read, which is neither refused nor counted.
+fn kind_at<R>(ops: &[Op<R>], place: usize) -> Kind
+    ensures { result ≡ kind_or (slice_get ops.now place) }
 {
     match ops.get(place) {
-        Some(op) => op.kind == Kind::Refused,
-        None => false,
-    }
-}
-
-fn writes_at<R>(ops: &[Op<R>], place: usize) -> u64
-    ensures { result ≡ (if is_write_at (slice_get ops.now place) then 1 else 0) }
-{
-    match ops.get(place) {
-        Some(op) => if op.kind == Kind::Write { 1 } else { 0 },
-        None => 0,
+        Some(op) => op.kind,
+        None => Kind::Read,
     }
 }

@@ -1,12 +1,10 @@
 //! The ranks by which operations are sorted.
 
-ghost use Rattle.std.specs.Prelude.{◌≡◌, length, not, IfOk, slice_get};
-ghost use Rattle.history_core.specs.Orders.{is_write_at};
+ghost use Rattle.std.specs.Prelude.{◌≡◌, length, IfOk, Some, slice_get};
 ghost use Rattle.history_search.specs.inner.Groups.{spans_in};
 ghost use Rattle.history_search.specs.inner.Found.{AreSorted};
 ghost use Rattle.history_search.specs.inner.Ranks.{asks_in, begin_in, end_in, first_in, group_or, is_above, is_late};
 ghost use Rattle.history_search.specs.inner.Ranks.{last_in, late_in, rank_in, ranks_in, stands_in, stands_with};
-ghost use Rattle.history_search.specs.inner.Ranks.{starts_of};
 
 use crate::span::{Marks, Span, span_in};
 use history_core::{Kind, Op};
@@ -43,7 +41,7 @@ pub(crate) fn rank_ops<R>(
 {
     let mut places = Vec::new(alloc);
     for place in 0..ops.len() {
-        if stands_at(ops, groups, spans, cut, place) {
+        if group_stands(ops, spans, cut, groups[place]) {
             places.push(place)?;
         }
     }
@@ -51,19 +49,18 @@ pub(crate) fn rank_ops<R>(
     Ok(places)
 }
 
-/// Whether the operation at a place has a group that stands.
-fn stands_at<R>(
+/// Whether an operation has a group, and one that stands.
+fn group_stands<R>(
     ops: &[Op<R>],
-    groups: &[Option<usize>],
     spans: &[Marks],
     cut: Option<Option<u64>>,
-    place: usize,
+    group: Option<usize>,
 ) -> bool
-    ensures { result ≡ stands_with cut (spans_in ops.now spans.now) (slice_get groups.now place) }
+    ensures { result ≡ stands_with cut (spans_in ops.now spans.now) (Some group) }
 {
-    match groups.get(place) {
-        Some(Some(group)) => stands(cut, *group, span_at(ops, spans, *group)),
-        _ => false,
+    match group {
+        Some(group) => stands(cut, group, span_at(ops, spans, group)),
+        None => false,
     }
 }
 
@@ -79,13 +76,17 @@ pub(crate) fn rank_at<R>(
 {
     let group = group_at(groups, place);
     let span = span_at(ops, spans, group);
+    let (answers, starts) = match ops.get(place) {
+        Some(op) => (op.kind != Kind::Write, op.starts),
+        None => (true, 0),
+    };
     Rank {
         late: late(cut, group, span),
         first: first(group, span),
         last: last(group, span),
         group,
-        answers: !is_write_at(ops, place),
-        starts: starts_at(ops, place),
+        answers,
+        starts,
         place,
     }
 }
@@ -97,24 +98,6 @@ pub(crate) fn group_at(groups: &[Option<usize>], place: usize) -> usize
     match groups.get(place) {
         Some(Some(group)) => *group,
         _ => 0,
-    }
-}
-
-fn is_write_at<R>(ops: &[Op<R>], place: usize) -> bool
-    ensures { result ≡ is_write_at (slice_get ops.now place) }
-{
-    match ops.get(place) {
-        Some(op) => op.kind == Kind::Write,
-        None => false,
-    }
-}
-
-fn starts_at<R>(ops: &[Op<R>], place: usize) -> u64
-    ensures { result ≡ starts_of (slice_get ops.now place) }
-{
-    match ops.get(place) {
-        Some(op) => op.starts,
-        None => 0,
     }
 }
 
@@ -132,7 +115,13 @@ pub(crate) fn span_at<R>(ops: &[Op<R>], spans: &[Marks], group: usize) -> Option
 pub(crate) fn end(span: Option<Span>) -> Option<u64>
     ensures { result ≡ end_in span }
 {
-    Some(span?.ends?.at)
+    match span {
+        None => None,
+        Some(span) => match span.ends {
+            None => None,
+            Some(m) => Some(m.at),
+        },
+    }
 }
 
 /// The latest beginning of a group.

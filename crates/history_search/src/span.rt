@@ -43,6 +43,13 @@ pub struct Marks {
 /// No operation has this place.
 const NOWHERE: u32 = u32::MAX;
 
+/// The marks of no operation.
+const EMPTY: Marks = Marks {
+    ends: NOWHERE,
+    begins: NOWHERE,
+    refused: NOWHERE,
+};
+
 /// The spans of all groups. There is no memory for more operations than there are places.
 pub(crate) fn span_groups<R>(
     alloc: Global,
@@ -56,7 +63,8 @@ pub(crate) fn span_groups<R>(
     if ops.len() > NOWHERE as usize {
         return Err(AllocError);
     }
-    let mut spans = empty_spans(alloc, ops)?;
+    let mut spans = Vec::new(alloc);
+    spans.resize(ops.len() + 1, EMPTY)?;
     join_ops(spans.as_mut_slice(), ops, groups);
     Ok(spans)
 }
@@ -74,28 +82,6 @@ fn join_ops<R>(spans: &mut [Marks], ops: &[Op<R>], groups: &[Option<usize>])
             let marks = joined(ops, spans[group], &ops[place], place as u32);
             spans[group] = marks;
         }
-    }
-}
-
-/// An empty span for the opening, and one for each operation.
-fn empty_spans<R>(alloc: Global, ops: &[Op<R>]) -> Result<Vec<Marks>, AllocError>
-    ensures { IfOk result (λ v. v.items ≡ replicate (length ops.now + 1) empty_marks) }
-{
-    let mut spans = Vec::new(alloc);
-    spans.push(empty())?;
-    for _op in ops {
-        spans.push(empty())?;
-    }
-    Ok(spans)
-}
-
-fn empty() -> Marks
-    ensures { result ≡ empty_marks }
-{
-    Marks {
-        ends: NOWHERE,
-        begins: NOWHERE,
-        refused: NOWHERE,
     }
 }
 

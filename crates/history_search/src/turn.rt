@@ -3,7 +3,7 @@
 ghost use Rattle.std.specs.Prelude.{◌≡◌, ◌<◌, ◌↔◌, ℕ, length, IfNone, IfSome, IsTrue, None, Some, slice_get};
 ghost use Rattle.history_search.specs.inner.Groups.{spans_in};
 ghost use Rattle.history_search.specs.inner.Found.{begin_place, crossing_of, end_place, place_or};
-ghost use Rattle.history_search.specs.inner.Ranks.{ends_at, IsTurned, later_rank, NoneTurned, ranks_in};
+ghost use Rattle.history_search.specs.inner.Ranks.{IsTurned, later_rank, NoneTurned, ranks_in};
 
 use crate::rank::{Rank, rank_at};
 use crate::span::{Marks, Moment, Span};
@@ -50,16 +50,13 @@ pub(crate) fn first_turn<R>(
 fn is_turned<R>(ops: &[Op<R>], x: &Rank, y: &Rank) -> bool
     ensures { IsTrue result ↔ IsTurned ops.now x.now y.now }
 {
-    match end_at(ops, y.place) {
-        Some(end) => end < x.starts,
+    match ops.get(y.place) {
+        Some(op) => match op.ends {
+            Some(end) => end < x.starts,
+            None => false,
+        },
         None => false,
     }
-}
-
-fn end_at<R>(ops: &[Op<R>], place: usize) -> Option<u64>
-    ensures { result ≡ ends_at ops.now place }
-{
-    ops.get(place)?.ends
 }
 
 /// The one that begins later.

@@ -1,9 +1,15 @@
 -- The first refused write of an order. Only private functions cite this, which is this project's own; the meaning of a
 -- lawful refusal stands with the check.
-use Rattle.std.specs.Prelude.{◌≡◌, ℕ, ◌<◌, true, List, take, slice_get, Some}
+use Rattle.std.specs.Prelude.{◌≡◌, ℕ, ◌<◌, true, List, take, slice_get, Option, None, Some}
 use Rattle.history_core.specs.declared.history.Op.{Op}
-use Rattle.history_core.specs.declared.history.Kind.TheVariants.{Refused}
+use Rattle.history_core.specs.declared.history.Kind.{Kind}
+use Rattle.history_core.specs.declared.history.Kind.TheVariants.{Read, Refused}
 use Rattle.history_core.specs.Orders.{writes_in}
+
+-- the kind of an operation, or else that of a read
+abbrev pub kind_or : {R : Type 0} → Option (Op R) → Kind
+kind_or None = Read
+kind_or (Some o) = o.kind
 
 module _ {R : Type 0} (ops : List (Op R)) (order : List ℕ) where
   -- none of the first n entries is a refused write

@@ -2,8 +2,8 @@
 use Rattle.std.proofs.Common.{rules}
 use Rattle.history_search.proofs.group.group_of.Goals as goal
 
-pub returns-then-not-counts : goal.returns-then-not-counts
-returns-then-not-counts g c = search rules
+pub returns-then-ne : goal.returns-then-ne
+returns-then-ne g c = search rules
 
 pub returns-in_err-record : goal.returns-in_err-record
 returns-in_err-record g c = search rules
