@@ -13,8 +13,8 @@ use Rattle.history_core.proofs.JoinedPlaces.{taken}
 use Rattle.history_core.proofs.Places.{get_set_other, get_set_same}
 use Rattle.history_thinning.specs.declared.group.Placed.{Placed}
 use Rattle.history_thinning.specs.declared.group.Roles.{Roles}
-use Rattle.history_thinning.specs.inner.Compacting.{has_role, if_used, IsShifted, item_at, moved_index, moved_roles, Settles, user_of}
-use Rattle.history_thinning.specs.inner.Kept.{AreThinned, AreWithin, Group, group_at, groups_at, IsGroup, IsIndex, nowhere, placed_at}
+use Rattle.history_thinning.specs.inner.Compacting.{has_role, if_used, item_at, moved_index, moved_roles, Settles, user_of}
+use Rattle.history_thinning.specs.inner.Kept.{AreThinned, Group, group_at, groups_at, IsGroup, IsIndex, nowhere, placed_at}
 use Rattle.history_thinning.specs.inner.Kept.{placed_of}
 use Rattle.history_thinning.proofs.RowLemmas.{Alike, alike_kept, group_is, group_path, placed_is}
 

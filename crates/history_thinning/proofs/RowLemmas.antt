@@ -9,7 +9,6 @@ use Rattle.std.proofs.lemmas.Option.{same_Some, slice_get-get_or, slice_get-map,
 use Rattle.history_core.specs.declared.history.Kind.{Kind}
 use Rattle.history_core.specs.declared.history.Kind.TheVariants.{Write, Read, Refused}
 use Rattle.history_core.specs.declared.history.Op.{Op}
-use Rattle.history_core.specs.declared.reason.SearchError.{SearchError}
 use Rattle.history_core.specs.declared.reason.SearchError.TheVariants.{Backwards, WritesOpening, WritesTwice}
 use Rattle.history_core.specs.Orders.{is_write}
 use Rattle.history_core.proofs.Places.{get_last, get_pushed, get_pushed_cases, get_set_other, get_set_same, get_stays}

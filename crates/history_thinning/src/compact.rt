@@ -55,15 +55,15 @@ fn user_of(ops: &[Op<usize>], roles: &[Roles], index: usize) -> Option<usize>
 {
     let number = ops.get(index)?.item?;
     let own = roles.get(number)?;
-    if has_role(own, index) {
+    if has_role(*own, index) {
         Some(number)
     } else {
         None
     }
 }
 
-fn has_role(roles: &Roles, index: usize) -> bool
-    ensures { result ≡ has_role roles.now index }
+fn has_role(roles: Roles, index: usize) -> bool
+    ensures { result ≡ has_role roles index }
 {
     roles.write as usize == index
         || roles.first as usize == index

@@ -6,7 +6,7 @@ ghost use Rattle.history_thinning.specs.inner.Entering.{joined_roles, row_fault,
 ghost use Rattle.history_thinning.specs.inner.Entering.{written_number};
 ghost use Rattle.history_thinning.specs.inner.Kept.{nowhere};
 
-use crate::group::{NOWHERE, Placed, Roles, empty, joined};
+use crate::group::{EMPTY, NOWHERE, Placed, Roles, joined};
 use crate::rows::{Rows, push};
 use history_core::{Kind, Op, SearchError};
 use std::alloc::AllocError;
@@ -23,7 +23,10 @@ pub(crate) fn entry_fault(
     if is_backwards(op.starts, op.ends) {
         return Some(SearchError::Backwards { place });
     }
-    write_fault(places, roles, written_number(op)?, place)
+    match written_number(op) {
+        Some(number) => write_fault(places, roles, number, place),
+        None => None,
+    }
 }
 
 /// Whether an operation ends before it begins.
@@ -57,19 +60,23 @@ fn write_fault(
     if number == 0 {
         return Some(SearchError::WritesOpening { place });
     }
-    let first = write_place(places, roles, number)?;
-    Some(SearchError::WritesTwice {
-        first,
-        second: place,
-    })
+    match write_place(places, roles, number) {
+        Some(first) => Some(SearchError::WritesTwice {
+            first,
+            second: place,
+        }),
+        None => None,
+    }
 }
 
 /// The place of the write of a record.
 fn write_place(places: &[usize], roles: &[Roles], number: usize) -> Option<usize>
     ensures { result ≡ row_write_place places.now roles.now number }
 {
-    let own = roles.get(number)?;
-    places.get(own.write as usize).copied()
+    match roles.get(number) {
+        Some(own) => places.get(own.write as usize).copied(),
+        None => None,
+    }
 }
 
 /// The record of an operation that counts: one that is finished, or a write.
@@ -92,11 +99,10 @@ pub(crate) fn make_room(roles: &mut Vec<Roles>, number: usize) -> Result<(), All
     if number < roles.len() {
         return Ok(());
     }
-    for _ in roles.len()..number {
-        roles.push(empty())?;
+    match number.checked_add(1) {
+        Some(count) => roles.resize(count, EMPTY),
+        None => Err(AllocError),
     }
-    roles.push(empty())?;
-    Ok(())
 }
 
 /// One more operation, with what it is of its record. Where there is no memory for it, all stays as it is.

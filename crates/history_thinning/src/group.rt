@@ -1,7 +1,7 @@
 //! What is kept of one record.
 
 ghost use Rattle.std.specs.Prelude.{◌≡◌, if◌then◌else◌};
-ghost use Rattle.history_thinning.specs.inner.Entering.{begins_last, empty_roles, end_at, ends_first, is_refused};
+ghost use Rattle.history_thinning.specs.inner.Entering.{begins_last, end_at, ends_first, is_refused};
 ghost use Rattle.history_thinning.specs.inner.Entering.{joined_roles, start_at};
 ghost use Rattle.history_core.specs.Orders.{is_write};
 
@@ -30,16 +30,13 @@ pub struct Roles {
 /// No operation has this index.
 pub(crate) const NOWHERE: u32 = u32::MAX;
 
-pub(crate) fn empty() -> Roles
-    ensures { result ≡ empty_roles }
-{
-    Roles {
-        write: NOWHERE,
-        first: NOWHERE,
-        last: NOWHERE,
-        refused: NOWHERE,
-    }
-}
+/// The roles of a record of which no operation is kept.
+pub(crate) const EMPTY: Roles = Roles {
+    write: NOWHERE,
+    first: NOWHERE,
+    last: NOWHERE,
+    refused: NOWHERE,
+};
 
 /// The roles with one more operation of the record, which is to have this index.
 pub(crate) fn joined(kept: &[Op<usize>], roles: Roles, op: &Op<usize>, next: u32) -> Roles
@@ -105,11 +102,17 @@ fn begins_last(starts: u64, kept: Option<u64>) -> bool
 fn end_at(kept: &[Op<usize>], index: u32) -> Option<u64>
     ensures { result ≡ end_at kept.now index }
 {
-    kept.get(index as usize)?.ends
+    match kept.get(index as usize) {
+        Some(op) => op.ends,
+        None => None,
+    }
 }
 
 fn start_at(kept: &[Op<usize>], index: u32) -> Option<u64>
     ensures { result ≡ start_at kept.now index }
 {
-    Some(kept.get(index as usize)?.starts)
+    match kept.get(index as usize) {
+        Some(op) => Some(op.starts),
+        None => None,
+    }
 }

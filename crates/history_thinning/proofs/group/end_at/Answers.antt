@@ -1,17 +1,17 @@
--- What was found is what stands at the place.
+-- What was found is what stands at the index.
 use Rattle.std.proofs.Common.{◌≡◌, Some, None, slice_get, length, refl}
 use Rattle.std.proofs.lemmas.Option.{slice_get_read, slice_get_past}
 use Rattle.history_thinning.proofs.group.end_at.Goals as goal
 
-pub returns-in_err-get : goal.returns-in_err-get
-returns-in_err-get c =
-    let at : slice_get c.args.kept.now c.args.index ≡ None =
-    slice_get_past c.args.kept.now c.args.index c.in_err-get.ensures.lookup.3 in
-    rw at c.from_residual.ensures
+pub returns-in-Some : goal.returns-in-Some
+returns-in-Some c =
+    let t = c.in-Some.ensures.lookup in
+    let at : slice_get c.args.kept.now c.args.index ≡ Some c.in-Some.op.now =
+    slice_get_read c.args.kept.now (length c.args.kept.now) c.args.index c.in-Some.op.now refl t.3.0 t.1 in
+    rw at refl
 
-pub returns : goal.returns
-returns c =
-    let t = c.in_ok-get.ensures.lookup in
-    let at : slice_get c.args.kept.now c.args.index ≡ Some c.in_ok-get.field-0.now =
-    slice_get_read c.args.kept.now (length c.args.kept.now) c.args.index c.in_ok-get.field-0.now refl t.3.0 t.1 in
+pub returns-in-None : goal.returns-in-None
+returns-in-None c =
+    let t = c.in-None.ensures.lookup in
+    let at : slice_get c.args.kept.now c.args.index ≡ None = slice_get_past c.args.kept.now c.args.index t.3 in
     rw at refl
