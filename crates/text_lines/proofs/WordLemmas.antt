@@ -1,8 +1,8 @@
 -- A phrase isn't empty, has no line feed and doesn't end in white space.
 use Rattle.std.proofs.Common.{◌≡◌, ◌<◌, ◌++◌, ◌+◌, ◌-◌, ◌∷◌, [], ℕ, List, Bool, true, false, ap, append_assoc}
 use Rattle.std.proofs.Common.{append-nil, arith, get_or, length}
-use Rattle.std.proofs.Common.{refl, sym, ◌∙◌, take, length-append}
-use Rattle.std.specs.Prelude.{◌==◌, ◌&&◌, not, codes, nat_lt, if◌then◌else◌}
+use Rattle.std.proofs.Common.{refl, sym, subst, ◌∙◌, take, length-append}
+use Rattle.std.specs.Prelude.{◌==◌, ◌&&◌, not, codes, nat_lt, if◌then◌else◌, Result, Ok, Err, IfOk, is_ok}
 use Rattle.std.proofs.lemmas.Bool.Decides.{nat_tests}
 use Rattle.std.specs.Char.{is_ascii_whitespace}
 use Rattle.std.proofs.lemmas.List.{take_more}
@@ -65,6 +65,12 @@ one_packed codes new all rest behind code before first pushed =
     ∙ ap (λ (l : List ℕ). (told true codes ++ l) ++ behind) (append-nil (word true code))
     ∙ append_assoc (told true codes) (word true code) behind
     ∙ ap (λ (l : List ℕ). told true codes ++ l) (sym first.parts) ∙ before
+
+-- what is true of a longer text, where there was memory for it
+pub if_longer : {T E : Type 0} (result : Result T E) (P : List ℕ → Type 0) (new more old : List ℕ) →
+    new ≡ (if is_ok result then more else old) → P more → IfOk result (λ _. P new)
+if_longer (Ok x) P new more old e h = subst P (sym e) h
+if_longer (Err x) P new more old e h = tt
 
 -- where each code is a byte
 pub told_plain : (codes : List ℕ) → told false codes ≡ codes

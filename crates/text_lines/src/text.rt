@@ -55,8 +55,7 @@ impl PackedText {
         requires { self.old.packed ≡ false }
         ensures { OnOk result (text_in self.new ≡ text_in self.old ++ bytes.now) }
     {
-        self.codes.extend_from_slice(bytes)?;
-        Ok(())
+        self.codes.extend_from_slice(bytes)
     }
 
     /// Keeps each byte as it is from now on.

@@ -48,8 +48,7 @@ pub(crate) fn push_told(text: &mut Vec<u8>, packed: bool, codes: &[u8]) -> Resul
     if packed {
         push_words(text, codes)
     } else {
-        text.extend_from_slice(codes)?;
-        Ok(())
+        text.extend_from_slice(codes)
     }
 }
 
@@ -80,7 +79,5 @@ fn push_pair(text: &mut Vec<u8>, number: u8) -> Result<(), AllocError>
     requires { number < 100 }
     ensures { OnOk result (text.new.items ≡ text.old.items ++ pair number) }
 {
-    text.push(b'0' + number / 10)?;
-    text.push(b'0' + number % 10)?;
-    Ok(())
+    text.extend_from_slice(&[b'0' + number / 10, b'0' + number % 10])
 }
