@@ -1,4 +1,4 @@
--- A thinned log under another limit, and the limit between one under which an order is lawful and one under which none is.
+-- The limit between one under which an order is lawful and one under which none is.
 use Rattle.std.proofs.Common.{◌≡◌, ◌∙◌, ◌⊎◌, ℕ, ◌+◌, ◌-◌, ◌<◌, ◌≤◌, List, true, false, refl, sym, subst, arith}
 use Rattle.history_core.specs.declared.history.Op.{Op}
 use Rattle.history_core.specs.declared.thinned.LogAnswer.{LogAnswer}
@@ -7,23 +7,9 @@ use Rattle.history_core.specs.declared.thinned.Thinned.{Thinned}
 use Rattle.history_core.specs.declared.reason.Reason.{Reason}
 use Rattle.history_core.specs.declared.reason.Reason.TheVariants.{Limit}
 use Rattle.history_thinning.specs.Answers.{IsThinnedAnswer}
-use Rattle.history_thinning.specs.Thinnings.{Equal, IsThinned, IsThinnedLog, one_term}
+use Rattle.history_thinning.specs.Thinnings.{IsThinnedLog}
 use Rattle.thinned_search.specs.Limits.{IsCounted, IsCountedBy, IsLawfulUnder, IsMost, is_lawful}
 use Rattle.history_core.specs.Kept.{limit_of}
-
-pub under_another : (own limit : ℕ) (log : List (Op ℕ)) (a b : Thinned) → b.history.opening ≡ a.history.opening
-    → b.history.terms ≡ one_term limit → b.history.ops ≡ a.history.ops → b.places ≡ a.places →
-    IsThinnedLog own log a → IsThinnedLog limit log b
-under_another own limit log a b opening terms ops places thin =
-    let kept : IsThinned Equal log a.history.ops b.places = subst (λ (ps : List ℕ). IsThinned Equal log a.history.ops ps)
-    (sym places) thin.kept in
-    record {
-      opening = opening ∙ thin.opening;
-      term = terms;
-      kept = subst (λ (os : List (Op ℕ)). IsThinned Equal log os b.places) (sym ops) kept;
-      forwards = thin.forwards;
-      once = thin.once;
-    }
 
 pub own_limit : (own : ℕ) (log : List (Op ℕ)) (a : Thinned) → IsThinnedLog own log a → limit_of a ≡ own
 own_limit own log a thin = rw thin.term refl

@@ -89,8 +89,7 @@ fn with_limit(alloc: Global, thinned: &Thinned, limit: u64) -> Result<Thinned, A
     ensures { IfOk result (λ other. (own : ℕ) (log : List (Op ℕ)) → IsThinnedLog own log thinned.now →
         IsThinnedLog limit log other) }
 {
-    let mut terms = Vec::new(alloc);
-    terms.push(Term { first: 0, limit })?;
+    let terms = Vec::from_slice(alloc, &[Term { first: 0, limit }])?;
     let ops = Vec::from_slice(alloc, thinned.history.ops.as_slice())?;
     let places = Vec::from_slice(alloc, thinned.places.as_slice())?;
     Ok(Thinned {
