@@ -226,7 +226,7 @@ module _ {R : Type 0} (Same : R → R → Type 0) (opening : R) (ops : List (Op 
         let y = ranked.all w (suc w) x.0 (slice_get_within ops w x.0 x.1.0) x.1 stood in
         let ky = is_rank y.0 y.1 y.2 in
         let gy : y.1.group ≡ suc w = rank_group y.1 w (suc w) x.0 ky y.3 x.1 in
-        write_at i y.0 w r y.1 x.0 e answers (of_group y.1 r ky k (gy ∙ sym g)) x.1 x.2 y.2 y.3 ky gy
+        write_at i y.0 w r y.1 x.0 e answers (of_group y.1 r ky k (◌∙◌ {a = y.1.group} gy (sym g))) x.1 x.2 y.2 y.3 ky gy
       where
         finished : (o : Op R) → o ≡ (is_rank i r e).op → Member ops groups r.place (is_rank i r e).op r.group → r.answers ≡ true →
             (end : ℕ) × ((is_rank i r e).op.ends ≡ Some end)

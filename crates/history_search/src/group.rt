@@ -76,9 +76,8 @@ fn add_write<R: Copy + Ord>(
     place: usize,
 ) -> Result<(), SearchError>
     requires { place + 1 < 2 ^ 64 }
-    ensures fresh { OnOk result (R.eq written opening ≡ false) }
-    ensures once { OnOk result (get R.cmp writes.old written ≡ None) }
-    ensures added { OnOk result (Updates R.cmp writes.old writes.new written (Some (place + 1))) }
+    ensures added { OnOk result ((R.eq written opening ≡ false) × (get R.cmp writes.old written ≡ None)
+        × Updates R.cmp writes.old writes.new written (Some (place + 1))) }
     ensures fault { IfErr result (IsWriteFault R.eq R.cmp opening writes.old written place) }
 {
     if written == opening {

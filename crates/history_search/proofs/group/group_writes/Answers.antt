@@ -18,10 +18,10 @@ loop-place-preserved g c =
           rw w.writes-is (record {
             known = known_more g.R.PartialEq.eq g.R.Ord.cmp g.met.R.Eq.laws g.met.R.Ord.total g.met.R.Ord.matches_eq c.args.opening
                 c.args.ops.now n o w.in-Some.written c.loop-place.writes at here c.loop-place.invariant.known w.add_write.new.writes
-                w.in-Ok.ensures.once w.in-Ok.ensures.added;
+                w.in-Ok.ensures.added.1 w.in-Ok.ensures.added.2;
             once = once_more g.R.PartialEq.eq g.R.Ord.cmp g.met.R.Eq.laws g.met.R.Ord.total g.met.R.Ord.matches_eq c.args.opening
-                c.args.ops.now n o w.in-Some.written c.loop-place.writes at here c.loop-place.invariant.known w.in-Ok.ensures.fresh
-                w.in-Ok.ensures.once c.loop-place.invariant.once;
+                c.args.ops.now n o w.in-Some.written c.loop-place.writes at here c.loop-place.invariant.known w.in-Ok.ensures.added.0
+                w.in-Ok.ensures.added.1 c.loop-place.invariant.once;
           })
       | in-None w ↦
           let here = sym c.written_by.ensures ∙ w.in-None.is in

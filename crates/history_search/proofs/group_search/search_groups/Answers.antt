@@ -37,7 +37,7 @@ returns-in-Some-first_stale g c =
       if_none c.first_ungrouped.result _ c.first_ungrouped.ensures.none c.in_default.not-Some,
       subst P (sym c.as_slice-2.ensures.value) c.in_ok-spans.ensures,
       subst Q (c.as_slice.ensures.value ∙ sym c.as_slice-2.ensures.value)
-          (if_none c.first_early.result _ c.first_early.ensures.none c.in_default-first_early.not-Some),
+          (if_none c.first_early.result (Q c.as_slice.result.now) c.first_early.ensures.none c.in_default-first_early.not-Some),
       c.in-Some-first_stale.ensures.some,
     )
 
