@@ -20,7 +20,7 @@ use Rattle.history_thinning.specs.Answers.{IsKeptAt, NamesKept}
 use Rattle.history_thinning.specs.Thinnings.{Equal, IsThinnedLog}
 use Rattle.history_thinning.proofs.Reasons.{alike, kept_at, kept_known, place_of, searched, write_kept}
 use Rattle.reason_sentences.specs.KeptAt.{is_item, kept_at as kept_place}
-use Rattle.print_reasons.specs.Named.{beside, is_named, same_item, writes_one_of}
+use Rattle.reason_sentences.specs.Named.{beside, is_named, same_item, writes_one_of}
 use Rattle.text_lines.specs.Places.{line_at}
 use Rattle.small_log.specs.Small.{lines_of, named_of, one_or_none, shown_in, small_lines, small_ops}
 use Rattle.order_laws.proofs.LoneLemmas.{IsLone, IsSource}

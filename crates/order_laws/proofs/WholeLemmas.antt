@@ -16,7 +16,7 @@ use Rattle.history_thinning.specs.Answers.{IsKeptAt, NamesKept}
 use Rattle.history_thinning.specs.Thinnings.{Equal, IsThinnedLog, one_term}
 use Rattle.keys_log.specs.Keys.{is_of, lines_of_key, places_from, places_of_key}
 use Rattle.reason_sentences.specs.KeptAt.{kept_at as kept_place}
-use Rattle.print_reasons.specs.Named.{in_kept, shown_of}
+use Rattle.reason_sentences.specs.Named.{in_kept, shown_of}
 use Rattle.small_log.specs.Small.{lines_of, named_of, shown_in, small_lines, small_ops, told_ops}
 use Rattle.print_keys.specs.KeysText.{whole_place, whole_places, whole_reason, whole_thinned}
 use Rattle.order_laws.proofs.PrintedLemmas.{unlawful_told}

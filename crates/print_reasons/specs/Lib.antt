@@ -1,4 +1,3 @@
 pub mod Counts
 pub mod LogText
-pub mod Named
 pub mod Text

@@ -1,6 +1,6 @@
 -- The printed lines of a search for an order of a log in lines (this project's own).
-use Rattle.std.specs.Prelude.{ℕ, ◌+◌, ◌++◌, ◌&&◌, List, [], ◌∷◌, drop, codes, Bool, false, true, if◌then◌else◌}
-use Rattle.std.specs.Prelude.{length, map, nat_lt, slice_get}
+use Rattle.std.specs.Prelude.{ℕ, ◌+◌, ◌++◌, List, [], ◌∷◌, drop, codes, Bool, false, true, if◌then◌else◌}
+use Rattle.std.specs.Prelude.{length, map, nat_lt}
 use Rattle.std.specs.Fmt.{decimal}
 use Rattle.std.specs.List.{flat_map}
 use Rattle.history_core.specs.declared.history.Op.{Op}
@@ -12,12 +12,12 @@ use Rattle.history_core.specs.declared.thinned.Thinned.{Thinned}
 use Rattle.text_lines.specs.Splits.{lines_of}
 use Rattle.text_lines.specs.Places.{line_at}
 use Rattle.reason_sentences.specs.Beside.{place_at}
-use Rattle.reason_sentences.specs.KeptAt.{is_item, kept_at}
+use Rattle.reason_sentences.specs.KeptAt.{kept_at}
+use Rattle.reason_sentences.specs.Named.{in_kept, is_named_next, next_of, shown_of}
 use Rattle.reason_sentences.specs.Numbers.{number_text}
 use Rattle.reason_sentences.specs.Seen.{could_see, most_seen, sees_opening}
 use Rattle.reason_sentences.specs.Sentences.{sentence_text}
 use Rattle.record_words.specs.Origins.{origins_text}
-use Rattle.print_reasons.specs.Named.{in_kept, is_named, shown_of}
 
 abbrev pub line_feed : ℕ
 line_feed = 10
@@ -40,16 +40,6 @@ reason_text (Limit refused) = rule_text (codes "unlawful limit") (refused ∷ []
 -- a line of the log behind its number
 abbrev pub line_text : ℕ → List ℕ → List ℕ
 line_text place line = codes "line " ++ decimal (line_at place) ++ codes ": " ++ line ++ line_feed ∷ []
-
--- the next kept operation is the one at this place of the log
-abbrev pub is_next : List ℕ → ℕ → ℕ → Bool
-is_next places next p = is_item p (slice_get places next)
-
-abbrev pub is_named_next : List (Op ℕ) → List ℕ → List ℕ → ℕ → ℕ → Bool
-is_named_next ops places named next p = is_next places next p && is_named ops named next
-
-abbrev pub next_of : List ℕ → ℕ → ℕ → ℕ
-next_of places next p = if is_next places next p then next + 1 else next
 
 -- the lines of the named ones of the operations that are kept, which are at these places of the log, from the next of
 -- them on; the first of these lines is that of the operation at place p

@@ -4,10 +4,8 @@
 
 mod counts;
 mod log_text;
-mod named;
 mod text;
 
 pub use counts::{are_few, push_count, push_end, push_little};
 pub use log_text::{lines_text, shows_little};
-pub use named::{in_kept, is_named, shown_of};
 pub use text::{body_of, push_line, push_place_lines, push_writes, reason_text, verdict_text};

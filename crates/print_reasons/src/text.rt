@@ -10,11 +10,11 @@ ghost use Rattle.reason_sentences.specs.KeptAt.{kept_at};
 ghost use Rattle.reason_sentences.specs.Seen.{sees_opening};
 ghost use Rattle.text_lines.specs.Splits.{lines_of};
 
-use crate::named::{in_kept, is_named_next, next_of, shown_of};
 use history_core::{LogAnswer, Op, Reason, Thinned};
 use itoa::Buffer;
 use reason_sentences::{
-    MOST_SEEN, could_see, kept_at, place_at, push_line_of, push_sentence, sees_opening,
+    MOST_SEEN, could_see, in_kept, is_named_next, kept_at, next_of, place_at, push_line_of, push_sentence,
+    sees_opening, shown_of,
 };
 use record_words::push_origins;
 use std::alloc::{AllocError, Global};

@@ -4,6 +4,7 @@
 mod beside;
 mod crossed;
 mod kept;
+mod named;
 mod seen;
 mod sentence;
 mod text;
@@ -11,6 +12,7 @@ mod times;
 
 pub use beside::place_at;
 pub use kept::{is_item, kept_at, write_of};
+pub use named::{in_kept, is_named, is_named_next, next_of, shown_of};
 pub use seen::{MOST_SEEN, could_see, sees_opening};
 pub use sentence::{push_sentence, push_unwritten};
 pub use text::{push_line_of, push_u64, push_words};

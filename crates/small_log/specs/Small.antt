@@ -15,7 +15,7 @@ use Rattle.reason_sentences.specs.KeptAt.{writes}
 use Rattle.history_core.specs.declared.thinned.LogAnswer.{LogAnswer}
 use Rattle.history_core.specs.declared.thinned.LogAnswer.TheVariants.{Lawful, Unlawful}
 use Rattle.history_core.specs.declared.thinned.Thinned.{Thinned}
-use Rattle.print_reasons.specs.Named.{in_kept, is_named, shown_of}
+use Rattle.reason_sentences.specs.Named.{in_kept, is_named, shown_of}
 use Rattle.reason_sentences.specs.Numbers.{number_text}
 use Rattle.text_lines.specs.Places.{line_at}
 

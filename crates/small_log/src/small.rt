@@ -11,8 +11,7 @@ ghost use Rattle.small_log.specs.Small.{small_lines, small_ops, small_text, task
 
 use crate::told::told_ops;
 use history_core::{Kind, LogAnswer, Op, Reason, Thinned};
-use print_reasons::{in_kept, is_named, shown_of};
-use reason_sentences::{push_u64, push_words};
+use reason_sentences::{in_kept, is_named, push_u64, push_words, shown_of};
 use std::alloc::{AllocError, Global};
 use text_lines::line_of;
 

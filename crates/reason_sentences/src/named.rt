@@ -2,11 +2,12 @@
 ghost use Rattle.std.specs.Prelude.{◌≡◌, ◌++◌, nat_eq, slice_get, take, IfOk, OnOk};
 ghost use Rattle.std.specs.List.{list_any};
 ghost use Rattle.reason_sentences.specs.Seen.{could_see, most_seen};
-ghost use Rattle.print_reasons.specs.Named.{beside, in_kept, is_named, places_of, same_item, shown_of, writes_one_of};
-ghost use Rattle.print_reasons.specs.Text.{is_named_next, is_next, next_of};
+ghost use Rattle.reason_sentences.specs.Named.{beside, in_kept, is_named, places_of, same_item, shown_of};
+ghost use Rattle.reason_sentences.specs.Named.{is_named_next, is_next, next_of, writes_one_of};
 
+use crate::kept::{is_item, kept_at};
+use crate::seen::{MOST_SEEN, could_see};
 use history_core::{Kind, Op, Reason};
-use reason_sentences::{MOST_SEEN, could_see, is_item, kept_at};
 use std::alloc::{AllocError, Global};
 
 /// A reason by the kept operations, which are at these places of the log.
@@ -87,7 +88,7 @@ fn places_of(alloc: Global, reason: Reason) -> Result<Vec<usize>, AllocError>
 }
 
 /// Whether the next of them is at this place and named.
-pub(crate) fn is_named_next(
+pub fn is_named_next(
     ops: &[Op<usize>],
     places: &[usize],
     named: &[usize],
@@ -106,7 +107,7 @@ fn is_next(places: &[usize], next: usize, place: usize) -> bool
 }
 
 /// The next behind a place.
-pub(crate) fn next_of(places: &[usize], next: usize, place: usize) -> usize
+pub fn next_of(places: &[usize], next: usize, place: usize) -> usize
     ensures { result ≡ next_of places.now next place }
 {
     if is_next(places, next, place) {

@@ -1,6 +1,6 @@
 -- Which of the kept operations a reason names (this project's own).
-use Rattle.std.specs.Prelude.{ℕ, ◌++◌, ◌&&◌, ◌||◌, List, [], ◌∷◌, Bool, false, nat_eq, slice_get, take}
-use Rattle.std.specs.Prelude.{Option, Some, None}
+use Rattle.std.specs.Prelude.{ℕ, ◌+◌, ◌++◌, ◌&&◌, ◌||◌, List, [], ◌∷◌, Bool, false, if◌then◌else◌}
+use Rattle.std.specs.Prelude.{nat_eq, slice_get, take, Option, Some, None}
 use Rattle.std.specs.List.{list_any}
 use Rattle.history_core.specs.declared.history.Op.{Op}
 use Rattle.history_core.specs.Orders.{is_write}
@@ -50,3 +50,13 @@ writes_one_of ops places (Some o) = is_write o.kind && list_any (λ p. same_item
 -- an operation at one of these places, or the write of its record
 abbrev pub is_named : List (Op ℕ) → List ℕ → ℕ → Bool
 is_named ops places p = list_any (λ q. nat_eq q p) places || writes_one_of ops places (slice_get ops p)
+
+-- the next kept operation is the one at this place of the log
+abbrev pub is_next : List ℕ → ℕ → ℕ → Bool
+is_next places next p = is_item p (slice_get places next)
+
+abbrev pub is_named_next : List (Op ℕ) → List ℕ → List ℕ → ℕ → ℕ → Bool
+is_named_next ops places named next p = is_next places next p && is_named ops named next
+
+abbrev pub next_of : List ℕ → ℕ → ℕ → ℕ
+next_of places next p = if is_next places next p then next + 1 else next
