@@ -55,23 +55,22 @@ lines_with lines place word = flat_map (one_with place word) lines
 abbrev pub line_name : ℕ → List ℕ
 line_name line = if nat_eq line 1 then codes "the opening" else codes "line " ++ decimal line
 
-abbrev pub gap_text : ℕ → List ℕ
-gap_text n = if nat_eq n 0 then codes " (" else codes ", "
+-- what stands in front of the first of several, or of one behind so many others
+abbrev pub gap_text : List ℕ → ℕ → List ℕ
+gap_text first n = if nat_eq n 0 then first else codes ", "
 
 -- lines, behind so many others
 abbrev pub names_from : ℕ → List ℕ → List ℕ
 names_from n [] = []
-names_from n (line ∷ lines) = gap_text n ++ line_name line ++ names_from (n + 1) lines
+names_from n (line ∷ lines) = gap_text (codes " (") n ++ line_name line ++ names_from (n + 1) lines
 
 abbrev pub names_text : List ℕ → List ℕ
 names_text [] = codes " (no record that it could see)"
 names_text (line ∷ lines) = names_from 0 (line ∷ lines) ++ codes ")"
 
-abbrev pub front_text : ℕ → List ℕ
-front_text place = if nat_eq place 0 then codes "Its words: " else codes ", "
-
 abbrev pub word_text : List LineWords → ℕ → ℕ → List ℕ
-word_text lines place word = front_text place ++ decimal word ++ names_text (lines_with lines place word)
+word_text lines place word =
+    gap_text (codes "Its words: ") place ++ decimal word ++ names_text (lines_with lines place word)
 
 -- words, the first of which is at this place
 abbrev pub words_text : List LineWords → ℕ → List ℕ → List ℕ

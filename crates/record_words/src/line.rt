@@ -1,9 +1,9 @@
 //! Lines of a text, and their words.
-ghost use Rattle.std.specs.Prelude.{◌≡◌, IfOk, codes, option_map, slice_get};
+ghost use Rattle.std.specs.Prelude.{◌≡◌, IfOk, option_map, slice_get};
 ghost use Rattle.text_lines.specs.Splits.{lines_of};
 ghost use Rattle.text_lines.specs.Words.{text_in, told};
-ghost use Rattle.record_words.specs.Origins.{all_words, line_in, opening_line, opening_words};
-ghost use Rattle.record_words.specs.Origins.{record_words, words_at};
+ghost use Rattle.record_words.specs.Origins.{all_words, line_in, opening_line, words_at};
+ghost use Rattle.record_words.specs.Words.{words_of};
 
 use crate::words::words_of;
 use history_core::Items;
@@ -43,45 +43,37 @@ fn opening_line(
 {
     let mut lines = Vec::new(alloc);
     if opening {
-        let words = opening_words(alloc, packed)?;
-        lines.push(words)?;
+        let words = line_words(alloc, packed, "opening", 0)?;
+        lines.push(LineWords { line: 1, words })?;
     }
     Ok(lines)
 }
 
-fn opening_words(alloc: Global, packed: &PackedText) -> Result<LineWords, AllocError>
-    ensures { IfOk result (λ line. line ≡ opening_words (text_in packed.now)) }
-{
-    let text = line_in(alloc, packed, 0)?;
-    let words = words_of(alloc, "opening", text.as_slice())?;
-    Ok(LineWords {
-        line: 1,
-        words: Items::new(words),
-    })
-}
-
-fn words_at(alloc: Global, packed: &PackedText, place: usize) -> Result<LineWords, AllocError>
-    ensures { IfOk result (λ line. line ≡ words_at (text_in packed.now) place) }
-{
-    let line = line_of(place)?;
-    let words = record_words(alloc, packed, place)?;
-    Ok(LineWords {
-        line,
-        words: Items::new(words),
-    })
-}
-
 /// The words of the operation at a place.
-pub(crate) fn record_words(
+pub(crate) fn words_at(
     alloc: Global,
     packed: &PackedText,
     place: usize,
-) -> Result<Vec<u64>, AllocError>
-    ensures { IfOk result (λ words. words.items ≡ record_words (text_in packed.now) place) }
+) -> Result<LineWords, AllocError>
+    ensures { IfOk result (λ line. line ≡ words_at (text_in packed.now) place) }
 {
     let line = line_of(place)?;
-    let text = line_in(alloc, packed, line - 1)?;
-    words_of(alloc, "record", text.as_slice())
+    let words = line_words(alloc, packed, "record", line - 1)?;
+    Ok(LineWords { line, words })
+}
+
+/// The words of the line with so many lines in front of it, whose record stands at this key.
+fn line_words(
+    alloc: Global,
+    packed: &PackedText,
+    key: &str,
+    index: usize,
+) -> Result<Items<u64>, AllocError>
+    ensures { IfOk result (λ words. words ≡ words_of key.now (line_in (text_in packed.now) index)) }
+{
+    let text = line_in(alloc, packed, index)?;
+    let words = words_of(alloc, key, text.as_slice())?;
+    Ok(Items::new(words))
 }
 
 /// The line with so many lines in front of it; an empty one behind the last.

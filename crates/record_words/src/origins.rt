@@ -2,11 +2,10 @@
 ghost use Rattle.std.specs.Prelude.{◌≡◌, ◌++◌, codes, IfOk, OnOk};
 ghost use Rattle.std.specs.Fmt.{decimal};
 ghost use Rattle.text_lines.specs.Words.{text_in};
-ghost use Rattle.record_words.specs.Origins.{front_text, gap_text, has, line_name, lines_with};
-ghost use Rattle.record_words.specs.Origins.{names_from, names_text, one_with, origins_text, told_of, word_text};
-ghost use Rattle.record_words.specs.Origins.{words_text};
+ghost use Rattle.record_words.specs.Origins.{gap_text, has, line_name, lines_with, names_from, names_text};
+ghost use Rattle.record_words.specs.Origins.{origins_text, told_of, word_text, words_text};
 
-use crate::line::{LineWords, all_words, record_words};
+use crate::line::{LineWords, all_words, words_at};
 use itoa::Buffer;
 use std::alloc::{AllocError, Global};
 use text_lines::PackedText;
@@ -24,9 +23,9 @@ pub fn push_origins(
     ensures { OnOk result (text.new.items
         ≡ text.old.items ++ origins_text (text_in packed.now) opening read writes.now) }
 {
-    let words = record_words(alloc, packed, read)?;
+    let own = words_at(alloc, packed, read)?;
     let lines = all_words(alloc, packed, opening, writes)?;
-    push_told(alloc, text, lines.as_slice(), words.as_slice())
+    push_told(alloc, text, lines.as_slice(), own.words.as_slice())
 }
 
 #[tactic(auto, using(std::proofs::Common::append_assoc))]
@@ -72,25 +71,24 @@ fn push_word(
     ensures { OnOk result (text.new.items ≡ text.old.items ++ word_text lines.now place word) }
 {
     let found = lines_with(alloc, lines, place, word)?;
-    push_front(text, place)?;
-    push_number(text, word)?;
+    push_number(text, gap("Its words: ", place), word)?;
     push_names(text, found.as_slice())
 }
 
-fn push_front(text: &mut Vec<u8>, place: usize) -> Result<(), AllocError>
-    ensures { OnOk result (text.new.items ≡ text.old.items ++ front_text place) }
+/// What stands in front of the first of several, or of one behind others.
+const fn gap(first: &'static str, behind: usize) -> &'static str
+    ensures { result.now ≡ gap_text first.now behind }
 {
-    if place == 0 {
-        text.extend_from_slice(b"Its words: ")
-    } else {
-        text.extend_from_slice(b", ")
-    }
+    if behind == 0 { first } else { ", " }
 }
 
-fn push_number(text: &mut Vec<u8>, number: u64) -> Result<(), AllocError>
-    ensures { OnOk result (text.new.items ≡ text.old.items ++ decimal number) }
+/// Adds words and a number behind them.
+#[tactic(auto, using(std::proofs::Common::append_assoc))]
+fn push_number(text: &mut Vec<u8>, words: &str, number: u64) -> Result<(), AllocError>
+    ensures { OnOk result (text.new.items ≡ text.old.items ++ (words.now ++ decimal number)) }
 {
     let mut buffer = Buffer::new();
+    text.extend_from_slice(words.as_bytes())?;
     text.extend_from_slice(buffer.format(number).as_bytes())
 }
 
@@ -117,38 +115,14 @@ fn push_all_names(text: &mut Vec<u8>, lines: &[usize]) -> Result<(), AllocError>
 
 #[tactic(auto, using(std::proofs::Common::append_assoc))]
 fn push_name(text: &mut Vec<u8>, number: usize, line: usize) -> Result<(), AllocError>
-    ensures { OnOk result (text.new.items ≡ text.old.items ++ (gap_text number ++ line_name line)) }
+    ensures { OnOk result (text.new.items ≡ text.old.items ++ (gap_text (codes " (") number ++ line_name line)) }
 {
-    push_gap(text, number)?;
-    push_line_name(text, line)
-}
-
-fn push_gap(text: &mut Vec<u8>, number: usize) -> Result<(), AllocError>
-    ensures { OnOk result (text.new.items ≡ text.old.items ++ gap_text number) }
-{
-    if number == 0 {
-        text.extend_from_slice(b" (")
-    } else {
-        text.extend_from_slice(b", ")
-    }
-}
-
-fn push_line_name(text: &mut Vec<u8>, line: usize) -> Result<(), AllocError>
-    ensures { OnOk result (text.new.items ≡ text.old.items ++ line_name line) }
-{
+    text.extend_from_slice(gap(" (", number).as_bytes())?;
     if line == 1 {
         text.extend_from_slice(b"the opening")
     } else {
-        push_line(text, line)
+        push_number(text, "line ", line as u64)
     }
-}
-
-#[tactic(auto, using(std::proofs::Common::append_assoc))]
-fn push_line(text: &mut Vec<u8>, line: usize) -> Result<(), AllocError>
-    ensures { OnOk result (text.new.items ≡ text.old.items ++ (codes "line " ++ decimal line)) }
-{
-    text.extend_from_slice(b"line ")?;
-    push_number(text, line as u64)
 }
 
 /// The lines that have a word at a place.
@@ -162,23 +136,11 @@ fn lines_with(
 {
     let mut found = Vec::new(alloc);
     for line in lines {
-        push_one_with(&mut found, place, word, line)?;
+        if has(place, word, line) {
+            found.push(line.line)?;
+        }
     }
     Ok(found)
-}
-
-fn push_one_with(
-    found: &mut Vec<usize>,
-    place: usize,
-    word: u64,
-    line: &LineWords,
-) -> Result<(), AllocError>
-    ensures { OnOk result (found.new.items ≡ found.old.items ++ one_with place word line.now) }
-{
-    if has(place, word, line) {
-        found.push(line.line)?;
-    }
-    Ok(())
 }
 
 fn has(place: usize, word: u64, line: &LineWords) -> bool

@@ -1,7 +1,7 @@
 //! The words of a line.
 ghost use Rattle.std.specs.Prelude.{◌≡◌, IfOk, map};
 ghost use Rattle.serde_json.specs.View.{view};
-ghost use Rattle.record_words.specs.Words.{numbers_at, numbers_in, numbers_of, one_number, words_in};
+ghost use Rattle.record_words.specs.Words.{numbers_at, numbers_in, numbers_of, words_in};
 ghost use Rattle.record_words.specs.Words.{words_of};
 
 use read_document::{DocError, items_in, read_value};
@@ -43,18 +43,10 @@ fn numbers_at(alloc: Global, key: &str, value: &Value) -> Result<Vec<u64>, Alloc
 fn numbers_in(alloc: Global, value: &Value) -> Result<Vec<u64>, AllocError>
     ensures { IfOk result (λ words. words.items ≡ numbers_in (view value.now)) }
 {
-    match items_in(value) {
-        Some(items) => numbers_of(alloc, items),
-        None => one_number(alloc, value),
-    }
-}
-
-fn one_number(alloc: Global, value: &Value) -> Result<Vec<u64>, AllocError>
-    ensures { IfOk result (λ words. words.items ≡ one_number (view value.now)) }
-{
-    match value.as_u64() {
-        Some(number) => Vec::from_slice(alloc, &[number]),
-        None => Ok(Vec::new(alloc)),
+    match (items_in(value), value.as_u64()) {
+        (Some(items), _) => numbers_of(alloc, items),
+        (None, Some(number)) => Vec::from_slice(alloc, &[number]),
+        (None, None) => Ok(Vec::new(alloc)),
     }
 }
 
