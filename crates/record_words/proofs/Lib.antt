@@ -1,2 +1,3 @@
 pub mod LineLemmas
 mod NumberLemmas
+mod TextLemmas
