@@ -3,22 +3,18 @@ ghost use Rattle.std.specs.Prelude.{◌≡◌, ◌++◌, ◌∷◌, [], map, IfO
 ghost use Rattle.text_lines.specs.Words.{text_in, told};
 ghost use Rattle.print_reasons.specs.Text.{body_of, head_text, is_of_opening, lawful_text, line_text};
 ghost use Rattle.print_reasons.specs.Text.{named_text, opening_text, shown_text, unlawful_text, verdict_text};
-ghost use Rattle.print_reasons.specs.Text.{place_lines, reason_text, rule_text, torn_by, words_text, writes_text};
-ghost use Rattle.print_reasons.specs.Text.{torn_text};
+ghost use Rattle.print_reasons.specs.Text.{place_lines, reason_text, rule_text, torn_text, words_text, writes_text};
 ghost use Rattle.reason_sentences.specs.Beside.{place_at};
-ghost use Rattle.reason_sentences.specs.KeptAt.{kept_at};
-ghost use Rattle.reason_sentences.specs.Seen.{sees_opening};
 ghost use Rattle.text_lines.specs.Splits.{lines_of};
 
 use history_core::{LogAnswer, Op, Reason, Thinned};
-use itoa::Buffer;
 use reason_sentences::{
-    MOST_SEEN, could_see, in_kept, is_named_next, kept_at, next_of, place_at, push_line_of, push_sentence,
-    sees_opening, shown_of,
+    MOST_SEEN, Piece, could_see, in_kept, is_named_next, kept_at, next_of, place_at, push_line_of,
+    push_pieces, push_sentence, sees_opening, shown_of,
 };
 use record_words::push_origins;
 use std::alloc::{AllocError, Global};
-use text_lines::{PackedText, line_of, split_line};
+use text_lines::{PackedText, split_line};
 
 /// The verdict, and of an unlawful log what shows it.
 pub fn verdict_text(
@@ -107,6 +103,7 @@ fn push_words_of(
     }
 }
 
+/// The same by the writes that an operation could see.
 fn push_torn_words(
     alloc: Global,
     text: &mut Vec<u8>,
@@ -117,36 +114,16 @@ fn push_torn_words(
     ensures { OnOk result (text.new.items
         ≡ text.old.items ++ torn_text (text_in log.now) thinned.now read) }
 {
-    let kept = kept_at(thinned.places.as_slice(), read);
-    let seen = could_see(alloc, thinned.history.ops.as_slice(), kept)?;
-    push_words_by(alloc, text, log, thinned, read, seen.as_slice())
-}
-
-/// The same by the writes that it could see.
-fn push_words_by(
-    alloc: Global,
-    text: &mut Vec<u8>,
-    log: &PackedText,
-    thinned: &Thinned,
-    read: usize,
-    seen: &[usize],
-) -> Result<(), AllocError>
-    ensures { OnOk result (text.new.items
-        ≡ text.old.items ++ torn_by (text_in log.now) thinned.now read seen.now) }
-{
+    let places = thinned.places.as_slice();
+    let ops = thinned.history.ops.as_slice();
+    let kept = kept_at(places, read);
+    let seen = could_see(alloc, ops, kept)?;
     if MOST_SEEN < seen.len() {
         return Ok(());
     }
-    let writes = places_of(alloc, thinned.places.as_slice(), seen)?;
-    let opening = could_see_opening(thinned, read);
+    let writes = places_of(alloc, places, seen.as_slice())?;
+    let opening = sees_opening(ops, kept);
     push_origins(alloc, text, log, opening, read, writes.as_slice())
-}
-
-fn could_see_opening(thinned: &Thinned, read: usize) -> bool
-    ensures { result ≡ sees_opening thinned.now.history.ops (kept_at thinned.now.places read) }
-{
-    let kept = kept_at(thinned.places.as_slice(), read);
-    sees_opening(thinned.history.ops.as_slice(), kept)
 }
 
 /// The places of kept operations.
@@ -206,13 +183,15 @@ fn push_first(
     Ok(())
 }
 
-#[tactic(auto, using(std::proofs::Common::append_assoc))]
 fn push_first_line(text: &mut Vec<u8>, line: &[u8]) -> Result<(), AllocError>
     ensures { OnOk result (text.new.items ≡ text.old.items ++ head_text (line.now ∷ [])) }
 {
-    text.extend_from_slice(b"line 1: ")?;
-    text.extend_from_slice(line)?;
-    text.extend_from_slice(b"\n")
+    let pieces = [
+        Piece::Words("line 1: "),
+        Piece::Codes(line),
+        Piece::Words("\n"),
+    ];
+    push_pieces(text, &pieces)
 }
 
 /// A reason by the lines of the operations that show it.
@@ -310,11 +289,11 @@ fn push_named(
 pub fn push_line(text: &mut Vec<u8>, place: usize, line: &[u8]) -> Result<(), AllocError>
     ensures { OnOk result (text.new.items ≡ text.old.items ++ line_text place line.now) }
 {
-    let number = line_of(place)?;
-    let mut buffer = Buffer::new();
-    text.extend_from_slice(b"line ")?;
-    text.extend_from_slice(buffer.format(number).as_bytes())?;
-    text.extend_from_slice(b": ")?;
-    text.extend_from_slice(line)?;
-    text.extend_from_slice(b"\n")
+    let pieces = [
+        Piece::Line("line ", place),
+        Piece::Words(": "),
+        Piece::Codes(line),
+        Piece::Words("\n"),
+    ];
+    push_pieces(text, &pieces)
 }

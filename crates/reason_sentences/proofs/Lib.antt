@@ -1,2 +1,4 @@
 pub mod CountLemmas
+mod PieceLemmas
 mod PlaceLemmas
+mod SeenLemmas

@@ -3,6 +3,7 @@ pub mod Crossed
 pub mod KeptAt
 pub mod Named
 pub mod Numbers
+pub mod Pieces
 pub mod Seen
 pub mod Sentences
 pub mod Times

@@ -14,15 +14,17 @@ abbrev pub unwritten_text : ℕ → List ℕ
 unwritten_text read = number_text (codes "Line ")
     (line_at read) ++ codes " gave a record that is neither the opening nor written.\n"
 
+-- an operation gave a record in these words; that a had ended when b began shows that it should not have
+abbrev pub gave_text : Thinned → ℕ → List ℕ → ℕ → ℕ → List ℕ
+gave_text thinned read words a b =
+    number_text (codes "Line ") (line_at read) ++ words ++ apart_text thinned a b ++ codes ".\n"
+
 abbrev pub early_text : Thinned → ℕ → ℕ → List ℕ
 early_text thinned read write =
-    number_text (codes "Line ") (line_at read) ++ codes " gave a record before the write of it began: "
-    ++ apart_text thinned read write ++ codes ".\n"
+    gave_text thinned read (codes " gave a record before the write of it began: ") read write
 
 abbrev pub stale_text : Thinned → ℕ → ℕ → List ℕ
-stale_text thinned before read =
-    number_text (codes "Line ") (line_at read) ++ codes " gave an old record, the opening: "
-    ++ apart_text thinned before read ++ codes ".\n"
+stale_text thinned before read = gave_text thinned read (codes " gave an old record, the opening: ") before read
 
 -- so many writes can stand before the first refused write
 abbrev pub limit_text : Thinned → ℕ → ℕ → List ℕ

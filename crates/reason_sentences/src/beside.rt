@@ -1,6 +1,6 @@
 //! Which writes an operation could see, in words.
 ghost use Rattle.std.specs.Prelude.{◌≡◌, ◌++◌, OnOk, codes};
-ghost use Rattle.reason_sentences.specs.Beside.{beside_text, place_at, rest_text, seen_line, seen_lines};
+ghost use Rattle.reason_sentences.specs.Beside.{beside_text, place_at, rest_text, seen_lines};
 
 use crate::kept::kept_at;
 use crate::seen::{MOST_SEEN, could_see};
@@ -43,22 +43,19 @@ fn push_seen_lines(text: &mut Vec<u8>, places: &[usize], seen: &[usize]) -> Resu
     ensures { OnOk result (text.new.items ≡ text.old.items ++ seen_lines places.now seen.now) }
 {
     for kept in seen {
-        push_seen_line(text, places, *kept)?;
+        push_line_of(text, " ", place_at(places, *kept))?;
     }
     Ok(())
-}
-
-fn push_seen_line(text: &mut Vec<u8>, places: &[usize], kept: usize) -> Result<(), AllocError>
-    ensures { OnOk result (text.new.items ≡ text.old.items ++ seen_line places.now kept) }
-{
-    push_line_of(text, " ", place_at(places, kept))
 }
 
 /// The place of a kept operation.
 pub fn place_at(places: &[usize], kept: usize) -> usize
     ensures { result ≡ place_at places.now kept }
 {
-    places.get(kept).copied().unwrap_or(0)
+    match places.get(kept) {
+        Some(place) => *place,
+        None => 0,
+    }
 }
 
 /// Whether that were all of so many.

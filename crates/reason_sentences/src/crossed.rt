@@ -1,14 +1,15 @@
 //! What is said of two records each of which has to stand before the other.
 ghost use Rattle.std.specs.Prelude.{◌≡◌, ◌++◌, OnOk};
 ghost use Rattle.reason_sentences.specs.Crossed.{both_text, crossed_text, had_ended_at};
-ghost use Rattle.reason_sentences.specs.Crossed.{old_text, others_text, records_text, replaced_by, replaced_text};
+ghost use Rattle.reason_sentences.specs.Crossed.{old_text, others_text, replaced_by, replaced_text};
 ghost use Rattle.reason_sentences.specs.Crossed.{shown_by, times_text, write_at, written_at};
 ghost use Rattle.std.specs.Option.{option_and_then};
 
 use crate::beside::push_beside;
 use crate::kept::write_of;
+use crate::pieces::{Piece, push_pieces};
 use crate::seen::is_before;
-use crate::text::{push_line_of, push_words};
+use crate::text::push_words;
 use crate::times::{begin_at, op_at, push_apart};
 use history_core::Thinned;
 use std::alloc::{AllocError, Global};
@@ -105,10 +106,13 @@ fn push_replaced(
 ) -> Result<(), AllocError>
     ensures { OnOk result (text.new.items ≡ text.old.items ++ replaced_text first write read) }
 {
-    push_line_of(text, "Line ", read)?;
-    push_line_of(text, " gave an old record, that of line ", first)?;
-    push_line_of(text, ", which line ", write)?;
-    push_words(text, " had replaced")
+    let pieces = [
+        Piece::Line("Line ", read),
+        Piece::Line(" gave an old record, that of line ", first),
+        Piece::Line(", which line ", write),
+        Piece::Words(" had replaced"),
+    ];
+    push_pieces(text, &pieces)
 }
 
 /// The operation that shows that a write had taken effect, if it isn't the write.
@@ -118,13 +122,12 @@ fn push_shown_by(text: &mut Vec<u8>, write: usize, by: usize) -> Result<(), Allo
     if write == by {
         push_words(text, ": ")
     } else {
-        push_line_of(text, ", as line ", by)?;
-        push_words(text, " shows: ")
+        let pieces = [Piece::Line(", as line ", by), Piece::Words(" shows: ")];
+        push_pieces(text, &pieces)
     }
 }
 
 /// That a had ended when b began, and c when d began.
-#[tactic(auto, using(std::proofs::Common::append_assoc))]
 fn push_times(
     text: &mut Vec<u8>,
     thinned: &Thinned,
@@ -135,13 +138,11 @@ fn push_times(
 ) -> Result<(), AllocError>
     ensures { OnOk result (text.new.items ≡ text.old.items ++ times_text thinned.now a b c d) }
 {
-    push_apart(text, thinned, a, b)?;
-    push_words(text, "; ")?;
-    push_apart(text, thinned, c, d)?;
-    push_words(text, ".\n")
+    push_apart(text, thinned, a, b, "; ")?;
+    push_apart(text, thinned, c, d, ".\n")
 }
 
-/// That each of two records has to stand before the other.
+/// That each of two records has to stand before the other, and which lines are of which.
 fn push_both(
     text: &mut Vec<u8>,
     thinned: &Thinned,
@@ -152,41 +153,32 @@ fn push_both(
 ) -> Result<(), AllocError>
     ensures { OnOk result (text.new.items ≡ text.old.items ++ both_text thinned.now a b c d) }
 {
-    push_records(text, a, b, c, d)?;
+    let pieces = [
+        Piece::Line("Lines ", a),
+        Piece::Line(" and ", d),
+        Piece::Words(" are of one record, "),
+    ];
+    push_pieces(text, &pieces)?;
+    push_others(text, b, c)?;
     push_times(text, thinned, a, b, c, d)
 }
 
-/// Which lines are of one record, and which of the other.
-#[tactic(auto, unfolding(crate::specs::Crossed::records_text), using(std::proofs::Common::append_assoc))]
-fn push_records(
-    text: &mut Vec<u8>,
-    a: usize,
-    b: usize,
-    c: usize,
-    d: usize,
-) -> Result<(), AllocError>
-    ensures { OnOk result (text.new.items ≡ text.old.items ++ records_text a b c d) }
-{
-    push_line_of(text, "Lines ", a)?;
-    push_line_of(text, " and ", d)?;
-    push_words(text, " are of one record, ")?;
-    push_others(text, b, c)
-}
-
 /// The lines of the other record, which may be one between the first two.
-#[tactic(auto, unfolding(crate::specs::Crossed::others_text), using(std::proofs::Common::append_assoc))]
 fn push_others(text: &mut Vec<u8>, b: usize, c: usize) -> Result<(), AllocError>
     ensures { OnOk result (text.new.items ≡ text.old.items ++ others_text b c) }
 {
     if b == c {
-        push_line_of(text, "and line ", b)?;
-        push_words(text, ", of another, stands between them: ")
+        let pieces = [
+            Piece::Line("and line ", b),
+            Piece::Words(", of another, stands between them: "),
+        ];
+        push_pieces(text, &pieces)
     } else {
-        push_line_of(text, "lines ", b)?;
-        push_line_of(text, " and ", c)?;
-        push_words(
-            text,
-            " of another, and each record has to stand before the other: ",
-        )
+        let pieces = [
+            Piece::Line("lines ", b),
+            Piece::Line(" and ", c),
+            Piece::Words(" of another, and each record has to stand before the other: "),
+        ];
+        push_pieces(text, &pieces)
     }
 }

@@ -1,8 +1,7 @@
 //! Which of the kept operations a reason names.
-ghost use Rattle.std.specs.Prelude.{◌≡◌, ◌++◌, nat_eq, slice_get, take, IfOk, OnOk};
+ghost use Rattle.std.specs.Prelude.{◌≡◌, slice_get, IfOk};
 ghost use Rattle.std.specs.List.{list_any};
-ghost use Rattle.reason_sentences.specs.Seen.{could_see, most_seen};
-ghost use Rattle.reason_sentences.specs.Named.{beside, in_kept, is_named, places_of, same_item, shown_of};
+ghost use Rattle.reason_sentences.specs.Named.{in_kept, is_named, places_of, same_item, shown_of};
 ghost use Rattle.reason_sentences.specs.Named.{is_named_next, is_next, next_of, writes_one_of};
 
 use crate::kept::{is_item, kept_at};
@@ -43,35 +42,12 @@ pub fn shown_of(alloc: Global, ops: &[Op<usize>], reason: Reason) -> Result<Vec<
     ensures { IfOk result (λ places. places.items ≡ shown_of ops.now reason) }
 {
     let mut shown = places_of(alloc, reason)?;
-    push_beside(alloc, &mut shown, ops, reason)?;
-    Ok(shown)
-}
-
-fn push_beside(
-    alloc: Global,
-    shown: &mut Vec<usize>,
-    ops: &[Op<usize>],
-    reason: Reason,
-) -> Result<(), AllocError>
-    ensures { OnOk result (shown.new.items ≡ shown.old.items ++ beside ops.now reason) }
-{
-    match reason {
-        Reason::Unwritten { read } => push_seen(alloc, shown, ops, read),
-        _ => Ok(()),
+    if let Reason::Unwritten { read } = reason {
+        let mut seen = could_see(alloc, ops, read)?;
+        seen.truncate(MOST_SEEN);
+        shown.extend_from_slice(seen.as_slice())?;
     }
-}
-
-fn push_seen(
-    alloc: Global,
-    shown: &mut Vec<usize>,
-    ops: &[Op<usize>],
-    read: usize,
-) -> Result<(), AllocError>
-    ensures { OnOk result (shown.new.items ≡ shown.old.items ++ take most_seen (could_see ops.now read)) }
-{
-    let mut seen = could_see(alloc, ops, read)?;
-    seen.truncate(MOST_SEEN);
-    shown.extend_from_slice(seen.as_slice())
+    Ok(shown)
 }
 
 /// The places that a reason names.
@@ -121,13 +97,7 @@ pub fn next_of(places: &[usize], next: usize, place: usize) -> usize
 pub fn is_named(ops: &[Op<usize>], places: &[usize], place: usize) -> bool
     ensures { result ≡ is_named ops.now places.now place }
 {
-    is_one_of(places, place) || writes_one_of(ops, places, ops.get(place).copied())
-}
-
-fn is_one_of(places: &[usize], place: usize) -> bool
-    ensures { result ≡ list_any (λ q. nat_eq q place) places.now }
-{
-    places.iter().any(|other| *other == place)
+    places.contains(&place) || writes_one_of(ops, places, ops.get(place).copied())
 }
 
 fn writes_one_of(ops: &[Op<usize>], places: &[usize], op: Option<Op<usize>>) -> bool
@@ -142,19 +112,13 @@ fn writes_one_of(ops: &[Op<usize>], places: &[usize], op: Option<Op<usize>>) -> 
 fn shares_item(ops: &[Op<usize>], places: &[usize], item: Option<usize>) -> bool
     ensures { result ≡ list_any (λ p. same_item item (slice_get ops.now p)) places.now }
 {
-    places.iter().any(|place| shares(ops, *place, item))
+    places.iter().any(|place| same_item(ops, *place, item))
 }
 
-fn shares(ops: &[Op<usize>], place: usize, item: Option<usize>) -> bool
+fn same_item(ops: &[Op<usize>], place: usize, item: Option<usize>) -> bool
     ensures { result ≡ same_item item (slice_get ops.now place) }
 {
-    same_item(item, ops.get(place).copied())
-}
-
-fn same_item(item: Option<usize>, other: Option<Op<usize>>) -> bool
-    ensures { result ≡ same_item item other }
-{
-    match (item, other) {
+    match (item, ops.get(place)) {
         (Some(item), Some(other)) => is_item(item, other.item),
         _ => false,
     }

@@ -1,7 +1,7 @@
 //! The writes that an operation could see.
-ghost use Rattle.std.specs.Prelude.{◌≡◌, ◌++◌, IfOk, OnOk};
+ghost use Rattle.std.specs.Prelude.{◌≡◌, IfOk};
 ghost use Rattle.reason_sentences.specs.Seen.{could_see, had_ended, is_before, is_seen, last_begin, later_begin};
-ghost use Rattle.reason_sentences.specs.Seen.{one_seen, seen_from, sees_opening};
+ghost use Rattle.reason_sentences.specs.Seen.{seen_from, sees_opening};
 ghost use Rattle.std.specs.List.{list_any};
 
 use history_core::{Kind, Op};
@@ -45,24 +45,11 @@ fn seen_in(alloc: Global, last: u64, end: u64, ops: &[Op<usize>]) -> Result<Vec<
 {
     let mut seen = Vec::new(alloc);
     for place in 0..ops.len() {
-        push_seen(&mut seen, last, end, place, &ops[place])?;
+        if is_seen(last, end, &ops[place]) {
+            seen.push(place)?;
+        }
     }
     Ok(seen)
-}
-
-fn push_seen(
-    seen: &mut Vec<usize>,
-    last: u64,
-    end: u64,
-    place: usize,
-    op: &Op<usize>,
-) -> Result<(), AllocError>
-    ensures { OnOk result (seen.new.items ≡ seen.old.items ++ one_seen last end place op.now) }
-{
-    if is_seen(last, end, op) {
-        seen.push(place)?;
-    }
-    Ok(())
 }
 
 fn is_seen(last: u64, end: u64, op: &Op<usize>) -> bool

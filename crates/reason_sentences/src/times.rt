@@ -3,24 +3,28 @@ ghost use Rattle.std.specs.Prelude.{◌≡◌, ◌++◌, OnOk};
 ghost use Rattle.reason_sentences.specs.Times.{apart_text, begin_at, end_at, op_at};
 
 use crate::kept::kept_at;
-use crate::text::{push_line_of, push_u64};
+use crate::pieces::{Piece, push_pieces};
 use history_core::{Op, Thinned};
 use std::alloc::AllocError;
 
-/// One operation had ended when the other began.
-#[tactic(auto, unfolding(crate::specs::Times::apart_text), using(std::proofs::Common::append_assoc))]
+/// One operation had ended when the other began, and words behind that.
 pub(crate) fn push_apart(
     text: &mut Vec<u8>,
     thinned: &Thinned,
     a: usize,
     b: usize,
+    behind: &str,
 ) -> Result<(), AllocError>
-    ensures { OnOk result (text.new.items ≡ text.old.items ++ apart_text thinned.now a b) }
+    ensures { OnOk result (text.new.items ≡ text.old.items ++ (apart_text thinned.now a b ++ behind.now)) }
 {
-    push_line_of(text, "line ", a)?;
-    push_u64(text, " ended at ", end_at(thinned, a))?;
-    push_line_of(text, ", line ", b)?;
-    push_u64(text, " began at ", begin_at(thinned, b))
+    let pieces = [
+        Piece::Line("line ", a),
+        Piece::Number(" ended at ", end_at(thinned, a)),
+        Piece::Line(", line ", b),
+        Piece::Number(" began at ", begin_at(thinned, b)),
+        Piece::Words(behind),
+    ];
+    push_pieces(text, &pieces)
 }
 
 pub(crate) fn op_at(thinned: &Thinned, place: usize) -> Option<Op<usize>>

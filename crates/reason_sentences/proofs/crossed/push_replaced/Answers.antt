@@ -1,9 +1,5 @@
--- Four pieces stand behind each other.
-use Rattle.std.proofs.lemmas.Result.{on_ok_weaker}
-use Rattle.reason_sentences.proofs.CountLemmas.{four_pieces}
+-- The pieces are the sentence.
 use Rattle.reason_sentences.proofs.crossed.push_replaced.Goals as goal
 
 pub returns : goal.returns
-returns c = on_ok_weaker c.push_words.result (λ last. four_pieces c.args.text.now.items _ _ _ _ c.push_line_of.new.text.items
-    c.push_line_of-2.new.text.items c.push_line_of-3.new.text.items c.push_words.new.text.items c.in_ok-push_line_of.ensures
-    c.in_ok-push_line_of-2.ensures c.in_ok-push_line_of-3.ensures last) c.push_words.ensures
+returns c = c.push_pieces.ensures
