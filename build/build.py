@@ -40,7 +40,7 @@ FOR_ALL = "c_exports", "fsr", "picture"
 # jobs end no sooner than one, and these do. A program gains nothing.
 LEAST_JOBS, MOST_JOBS = 3, 4
 # Processor seconds below which a proof gets one job.
-SMALL = 40
+SMALL = 30
 # Bytes that a proof takes for its first job and for each further one.
 FIRST_JOB, NEXT_JOB = 2_000_000_000, 700_000_000
 # Processor seconds that code over these libraries of the kit takes beyond what its text says. (A library whose own calls take or give a
