@@ -17,7 +17,9 @@ RT_JOBS=N allots N processors in place of all that there are. The status is 0 wh
 
 import fcntl
 import hashlib
+import heapq
 import os
+import random
 import re
 import selectors
 import shutil
@@ -48,6 +50,8 @@ FIRST_JOB, NEXT_JOB = 2_000_000_000, 700_000_000
 BEYOND = {"clap": 75, "serde_json": 20}
 # The programs that answer first. Rattle's own code generator makes them, in half of the time that LLVM takes.
 FIRST = ("fsr_check", "fsr_log", "fsr_once", "fsr_order", "fsr_coherent", "fsr_play", "fsr_watch")
+# How many orders are tried beside that of the longest chain first, and by how much of itself a chain counts for more there at most.
+TRIES, MORE = 300, 0.5
 # Seconds after which a folder that another build works in is asked for again.
 PAUSE = 1
 
@@ -280,16 +284,40 @@ class Work:
         unlock(self.held)
 
 
+def end_of(ranks, weights, uses, processors):
+    """When a build ends whose proofs take one job and these times, if of what can begin the highest rank does so first."""
+    left, works, built, now = dict.fromkeys(ranks), [], set(), 0
+    while left or works:
+        ready = sorted((it for it in left if built.issuperset(uses[it])), key=lambda it: -ranks[it])
+        for it in ready[: processors - len(works)]:
+            heapq.heappush(works, (now + weights[it], it.name, it))
+            del left[it]
+        now, _, ended = heapq.heappop(works)
+        built.add(ended)
+    return now
+
+
+def ranks_of(behind, weights, processors):
+    """By each crate a number, the highest of what can begin comes first: the length of the chain behind it, unless the build ends sooner by
+    one of some numbers near that. (Of chains that are nearly as long the longest first isn't always best.)"""
+    uses = {it: [other for other in it.uses if other in behind] for it in behind}
+    chance = random.Random(0)
+    others = ({it: length * (1 + MORE * chance.random()) for it, length in behind.items()} for _ in range(TRIES))
+    return min([behind, *others], key=lambda it: end_of(it, weights, uses, processors))
+
+
 class Builder:
     def __init__(self, crates, kit):
         self.left, self.kit = list(crates), kit
         self.built, self.refused, self.works, self.told = set(), set(), {}, set()
         self.processors, self.memory = processors(), 0.85 * free_memory()
         self.selector = selectors.DefaultSelector()
-        self.behind = {it: it.weight() for it in crates}
+        weights = {it: it.weight() for it in crates}
+        self.behind = dict(weights)
         for it in reversed(crates):
             above = [self.behind[other] for other in crates if it in other.uses]
             self.behind[it] += max(above, default=0)
+        self.ranks = ranks_of(self.behind, weights, self.processors)
 
     def jobs_now(self, crate, ready):
         """How many jobs a proof gets that is the first of so many, 0 where it has to wait. A proof gets several only where processors would
@@ -308,10 +336,10 @@ class Builder:
         return jobs if jobs > 0 or self.works else 1
 
     def start_ready(self):
-        """Begins what can begin, the longest chain first, and says whether something waits for another build."""
+        """Begins what can begin, the highest rank first, and says whether something waits for another build."""
         waits = False
         ready = [it for it in self.left if self.built.issuperset(it.uses)]
-        for place, crate in enumerate(sorted(ready, key=lambda it: -self.behind[it])):
+        for place, crate in enumerate(sorted(ready, key=lambda it: -self.ranks[it])):
             jobs = self.jobs_now(crate, len(ready) - place)
             if jobs < 1:
                 break

@@ -1,4 +1,4 @@
-# How many jobs build/build.py gives; and how it builds, tried on two small crates: what was changed is proved and built again with what
+# How many jobs build/build.py gives, and in which order; and how it builds, tried on two small crates: what was changed is proved and built again with what
 # stands above it and nothing else, what isn't proved isn't built, and of two builds at once one waits. The crates below each are the same
 # for the shell and for Python.
 
@@ -138,6 +138,23 @@ GIVEN
     done
 }
 
+# Sees that five crates of which none stands on another, and which take 5, 5, 4, 4 and 4, are built by two processors in 12: with the longest
+# first it would be 13.
+order_builds() {
+    python3 - <<'ORDERED'
+import sys
+
+sys.path.insert(0, "build")
+import build
+
+crates = [type("Alone", (), {"name": f"crate_{place}", "uses": ()})() for place in range(5)]
+weights = dict(zip(crates, (5, 5, 4, 4, 4)))
+ends = build.end_of(build.ranks_of(weights, weights, 2), weights, {it: it.uses for it in crates}, 2)
+print(f"they end at {ends}")
+sys.exit(ends != 12)
+ORDERED
+}
+
 if ! command -v python3 >/dev/null 2>&1; then
     fail "build/build.py" "there is no python3"
 else
@@ -155,6 +172,12 @@ else
     fi
     catches_in_tree "a job more than is allotted" "^of 1 allotted 2 were given" build/build.py \
         's/left = self.processors - /left = 1 + self.processors - /' give_jobs
+    if order_builds >"$room/out" 2>&1; then
+        pass "the order in which a build ends sooner is taken"
+    else
+        fail "the order in which a build ends sooner is taken" "$(tail -n 2 "$room/out" | tr '\n' ' ')"
+    fi
+    catches_in_tree "the longest chain first, whatever ends sooner" "^they end at 13" build/build.py 's/range(TRIES)/range(0)/' order_builds
     lay_out_crates
     builds "a program and its library are proved and built" 0 "high low " 7
     builds "what is built isn't built again" 0 "" 7
