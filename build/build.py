@@ -54,6 +54,8 @@ FIRST = ("fsr_check", "fsr_log", "fsr_once", "fsr_order", "fsr_coherent", "fsr_p
 TRIES, MORE = 300, 0.5
 # Seconds after which a folder that another build works in is asked for again.
 PAUSE = 1
+# The prover's allocator keeps what was freed for what comes next. (To give it back and ask for it again takes a thirtieth of a proof.)
+KEPT_MEMORY = {"MIMALLOC_PURGE_DELAY": "-1"}
 
 
 def say(text):
@@ -249,7 +251,7 @@ class Work:
     def start(self):
         how = {"cwd": self.crate.folder, "stdin": subprocess.DEVNULL, "stdout": subprocess.PIPE, "stderr": subprocess.STDOUT}
         # (the command has the locks too, so that they last as long as it does if this script is killed)
-        self.process = subprocess.Popen(self.commands.pop(0), pass_fds=self.held, **how)
+        self.process = subprocess.Popen(self.commands.pop(0), env=KEPT_MEMORY | os.environ, pass_fds=self.held, **how)
         os.set_blocking(self.process.stdout.fileno(), False)
 
     def memory(self):

@@ -188,7 +188,7 @@ fn push_first_line(text: &mut Vec<u8>, line: &[u8]) -> Result<(), AllocError>
 {
     let pieces = [
         Piece::Words("line 1: "),
-        Piece::Codes(line),
+        Piece::Bytes(line),
         Piece::Words("\n"),
     ];
     push_pieces(text, &pieces)
@@ -292,7 +292,7 @@ pub fn push_line(text: &mut Vec<u8>, place: usize, line: &[u8]) -> Result<(), Al
     let pieces = [
         Piece::Line("line ", place),
         Piece::Words(": "),
-        Piece::Codes(line),
+        Piece::Bytes(line),
         Piece::Words("\n"),
     ];
     push_pieces(text, &pieces)

@@ -9,9 +9,11 @@ use std::alloc::AllocError;
 #[derive(Drop)]
 pub enum Piece<'a> {
     Words(&'a str),
-    Codes(&'a [u8]),
+    /// Bytes of a line.
+    Bytes(&'a [u8]),
     /// Words, and the number of the line of the operation at a place.
     Line(&'a str, usize),
+    /// Words, and a number behind them.
     Number(&'a str, u64),
 }
 
@@ -30,7 +32,7 @@ fn push_piece(text: &mut Vec<u8>, piece: &Piece) -> Result<(), AllocError>
 {
     match piece {
         Piece::Words(words) => push_words(text, words),
-        Piece::Codes(codes) => text.extend_from_slice(codes),
+        Piece::Bytes(bytes) => text.extend_from_slice(bytes),
         Piece::Line(words, place) => push_line_of(text, words, *place),
         Piece::Number(words, number) => push_u64(text, words, *number),
     }
