@@ -35,7 +35,7 @@ def counted():
     random, logs, repeats = map(int, taken.groups())
     lines = [
         f"{len(crates)} crates, {sum(bodies.values())} wrong bodies and {sum(tests.values())} test functions in them; "
-        f"{len(glob.glob(f'{TOP}/examples/*.json'))} examples; {len([it for it in refused if it and it[0] != '#'])} documents at the bounds of "
+        f"{len(glob.glob(f'{TOP}/examples/*.json*'))} examples; {len([it for it in refused if it and it[0] != '#'])} documents at the bounds of "
         f"refusals and rules;\n{random:,} random documents, {logs:,} random logs and {repeats:,} whose records repeat, against a plain reference.",
         "",
         "Beside the crates, each file compared with what a built program prints:",

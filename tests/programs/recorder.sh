@@ -1,7 +1,7 @@
 #!/bin/sh
 # The recorder for C, C++ and Rust, and what makes JSON Lines of other programs' histories. Registers are recorded and the logs judged:
 # right ones have to be lawful, wrong ones have to be refused. The judge is `fsr order`, where it is built and reads lines, and always the
-# plain one of tests/reference. With the PREFIX of an installed library its registers and boards are recorded too. The last line is
+# plain one of tests/programs/reference. With the PREFIX of an installed library its registers and boards are recorded too. The last line is
 # the sums. usage: tests/programs/recorder.sh [PREFIX [OPERATIONS]]
 cd "$(dirname -- "$(readlink -f -- "$0")")/../.." || exit 1
 prefix=$1 operations=${2:-9000}
