@@ -15,6 +15,9 @@ import sys
 
 TOP = os.path.dirname(os.path.dirname(os.path.realpath(__file__)))
 FOLDER = f"{TOP}/docs/man"
+# Of the statuses those that `picture` can't end with, and what the first two say of it.
+NOT_OF_PICTURE = ("6", "7", "8")
+OF_PICTURE = {"0": "the order is lawful, or one was found; or the schedule was played.", "1": "the order is unlawful, or none is lawful."}
 # An entry of a list of clap's: its names, and what it says of them.
 ENTRY = re.compile(r"^ {2,6}(\S.*?)(?: {2,}(\S.*))?$")
 
@@ -55,12 +58,15 @@ def roff(text):
     return re.sub(r"(?m)^([.'])", r"\\&\1", text)
 
 
-def statuses():
-    """The statuses of the page, each with its words, without marks."""
+def statuses(name):
+    """The statuses of a program by the page, each with its words, without marks."""
     listed = text_of("docs/FORMATS.md").partition("\n## Statuses and faults\n")[2]
     found = re.findall(r"(?m)^- \*\*(\d+)\*\*(?:, of `\./fsr` itself)?: (.*(?:\n  .*)*)", listed)
     plain = ((number, re.sub(r"[`*]", "", " ".join(words.split()))) for number, words in found)
-    return [(number, words) for number, words in plain if number != "70"]
+    found = [(number, words) for number, words in plain if number != "70"]
+    if name == "picture":
+        found = [(number, OF_PICTURE.get(number, words)) for number, words in found if number not in NOT_OF_PICTURE]
+    return found
 
 
 def version():
@@ -79,7 +85,7 @@ def page(name, about, synopsis, middle):
         ".SH NAME", f"{name} \\- {roff(about)}",
         ".SH SYNOPSIS", *(line for it in synopsis for line in (f".B {roff(it)}", ".br")),
         *middle,
-        ".SH EXIT STATUS", *tagged(statuses()),
+        ".SH EXIT STATUS", *tagged(statuses(name)),
         ".SH SEE ALSO", f".BR {'picture' if name == 'fsr' else 'fsr'} (1),", "docs/FORMATS.md and docs/CHECKING.md",
     ]
     return "\n".join(lines) + "\n"
