@@ -41,7 +41,8 @@ def run(room, size, calls, turn):
         _, way, mode, call, *figures = line.split(",")
         yield (way, mode, call), [int(it) for it in figures]
     if said.returncode:
-        sys.exit(f"{size} bytes: a record that is torn or older\n{said.stdout}")
+        what = "a record that is torn or older" if said.returncode == 1 else f"the program ended with status {said.returncode}"
+        sys.exit(f"{size} bytes: {what}\n{said.stdout}{said.stderr}")
 
 
 def measure(prefix, rounds, calls):

@@ -12,9 +12,10 @@ trap 'exit 1' HUP INT TERM
 echo "on $(nproc) processors, $(git -C "$top" log -1 --format=%h), $(rt version)"
 before=0
 for command in "$@"; do
+    row=fsr_$command
     case $command in
     check) document=lawful.json ;;
-    order) document=lines.jsonl ;;
+    order) document=lines.jsonl row=fsr_once ;;
     play) document=stalled_reader.json ;;
     *)
         echo "first_result: no command $command" >&2
@@ -29,6 +30,6 @@ for command in "$@"; do
     took=$(($(date +%s) - began))
     [ "$status" -le 1 ] && cmp -s "$room/answer" "$top/examples/${document%.json*}.txt" || exit 1
     count_spent "$room/times"
-    tell_cost "./fsr $command" "$took" "$(echo "$used $before" | awk '{ print $1 - $2 }')" "fsr_$command"
+    tell_cost "./fsr $command" "$took" "$(echo "$used $before" | awk '{ print $1 - $2 }')" "$row"
     before=$used
 done

@@ -1,4 +1,4 @@
-# What `fsr`, `picture`, `soak`, `install` and `test` share: whether what is built of a crate is fresh, and how it is built. They name the
+# What `fsr`, `picture`, `package` and other scripts share: whether what is built of a crate is fresh, and how it is built. They name the
 # folder at the top in $top.
 
 . "$top/build/spent.sh"
@@ -28,7 +28,12 @@ crates_below() {
 is_newer_than_sources() {
     [ -e "$1" ] || return 1
     newer_than=$1
-    set -- $(crates_below "$2" | sed 's|.*|crates/&/src crates/&/specs crates/&/proofs|')
+    # (these two are linked with what the file has of the system)
+    case $2 in
+    fsr | picture) linked=c/os.c ;;
+    *) linked= ;;
+    esac
+    set -- $linked $(crates_below "$2" | sed 's|.*|crates/&/src crates/&/specs crates/&/proofs|')
     [ -z "$(cd "$top" && find crates.txt "$@" -newer "$newer_than" -print -quit 2>/dev/null)" ]
 }
 

@@ -50,7 +50,7 @@ prove_library() {
 # older library links with it.
 releases() {
     echo "$version" | awk -F. '{
-        for (minor = 1; minor <= $2; minor++) printf ".globl nidzaru_since_%d_%d\nnidzaru_since_%d_%d:\n", $1, minor, $1, minor
+        for (minor = $1 == 2; minor <= $2; minor++) printf ".globl nidzaru_since_%d_%d\nnidzaru_since_%d_%d:\n", $1, minor, $1, minor
     }'
 }
 

@@ -15,11 +15,13 @@ room=$(mktemp -d) || exit 1
 trap 'rm -rf "$room"' EXIT
 . "$top/build/library.sh"
 if [ -n "$LIBRARY" ]; then cp "$LIBRARY" "$room/libnidzaru.a"; else make_library "$room/libnidzaru.a"; fi || exit 70
-disturbed=
-if [ $# = 2 ]; then
-    cc -std=c11 -O2 "$top/tools/disturb.c" -o "$room/disturb" || exit 70
-    disturbed="$room/disturb $2"
-fi
+seed=$2
+[ -z "$seed" ] || cc -std=c11 -O2 "$top/tools/disturb.c" -o "$room/disturb" || exit 70
+
+# Runs the program with these words, disturbed if there is a seed.
+run_program() {
+    if [ -n "$seed" ]; then "$room/disturb" "$seed" "$room/program" "$@"; else "$room/program" "$@"; fi
+}
 
 make_program() {
     cc -std=c11 -D_GNU_SOURCE -O2 -pthread -I "$top/c" "-DBYTES=$bytes" $family "$@" "$top/c/tests/${kind}_soak.c" \
@@ -39,7 +41,10 @@ soak() {
     try_planted
     make_program || exit 70
     for tasks in $counts; do
-        $disturbed "$room/program" "$tasks" "$seconds" 2>>"$room/disturbed" || { tail -n 3 "$room/disturbed" >&2; exit 1; }
+        run_program "$tasks" "$seconds" 2>>"$room/disturbed" && continue
+        tail -n 3 "$room/disturbed" >&2
+        cat "$room/told" >&2
+        exit 1
     done
 }
 
@@ -50,9 +55,7 @@ for family in '' -DTRIPLE; do
     kind=board counts='2 4 16'
     for bytes in 24 256 4096; do soak; done
 done >"$room/told"
-status=$?
 cat "$room/told"
-[ "$status" = 0 ] || exit 1
 awk -F'[:,] ' '{ kind = / pairs/ ? "registers" : "boards"; lines[kind] += /nothing found$/
         for (i = 1; i <= NF; i++) { if ($i ~ / writes$/) writes[kind] += $i + 0; if ($i ~ / reads$/) reads[kind] += $i + 0 } }
     END { for (kind in lines) printf "%d %s: %.0f writes, %.0f reads\n", lines[kind], kind, writes[kind], reads[kind]

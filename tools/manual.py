@@ -15,9 +15,10 @@ import sys
 
 TOP = os.path.dirname(os.path.dirname(os.path.realpath(__file__)))
 FOLDER = f"{TOP}/docs/man"
-# Of the statuses those that `picture` can't end with, and what the first two say of it.
+# Of the statuses those that `picture` can't end with, and what the first three say of it.
 NOT_OF_PICTURE = ("6", "7", "8")
-OF_PICTURE = {"0": "the order is lawful, or one was found; or the schedule was played.", "1": "the order is unlawful, or none is lawful."}
+OF_PICTURE = {"0": "the order is lawful, or one was found; or the schedule was played.", "1": "the order is unlawful, or none is lawful.",
+              "2": "there are words."}
 # An entry of a list of clap's: its names, and what it says of them.
 ENTRY = re.compile(r"^ {2,6}(\S.*?)(?: {2,}(\S.*))?$")
 

@@ -88,6 +88,8 @@ BY_HAND = [
     (WRITES[len(head([0, 70], words=[0, 0, 0])):], [], "explain: line 1: this is no header of a log\n"),
     (head(0, repeats=True) + op(1, "read", 1, 2, 7), [], "explain: line 1: the records of this log repeat, so none tells its write\n"),
     (head(0, repeats=False) + op(1, "read", 1, 2, 0), [], None),
+    (head(0) + op(1, "read", 1, 2, 0)[:-2] + ',"key":"a"}\n', [],
+     "explain: line 2: the operations of this log have keys, and each key is a register of its own\n"),
     (WRITES + "{\n", [], "explain: line 5: not JSON\n"),
     (WRITES + "7\n", [], "explain: line 5: this is no object\n"),
     (WRITES + op(1, "read", None, 2, 7), [], "explain: line 5: this is no operation\n"),

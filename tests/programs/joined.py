@@ -69,6 +69,8 @@ KEPT_ROWS = with_words(row(4, "write", 5, 9, [1, 77]), 1, 8) + row(4, "read", 10
 BY_HAND = [
     ([], [HEAD + WRITES + done(2), READS], HEAD + row(0, "write", 100, 110, 1) + row(1, "read", 150, 160, 1) + row(1, "read", 190, 195, 1)
      + row(0, "write", 200, 210, 2) + row(1, "read", 600, 610, 2) + done(5)),
+    # floors, of all and of a task, as a recorder writes them while the threads run
+    ([], [HEAD + '{"kind":"floor","begin":90}\n' + WRITES + '{"kind":"floor","begin":205,"who":0}\n' + done(2)], HEAD + WRITES + done(2)),
     (["--opening", "[0,7]", "--limit", "3"], [WRITES, "\n"], '{"kind":"lines","opening":[0,7],"limit":3}\n' + WRITES + done(2)),
     ([], ['{"kind":"lines","opening":"a","limit":5}\n', WRITES], '{"kind":"lines","opening":"a","limit":5}\n' + WRITES + done(2)),
     # the reads at 150 and 190 overlap by now: the second gets a task of its own; the writes stay

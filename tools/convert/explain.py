@@ -17,7 +17,7 @@ the verdict.
 
 Of a long log standard error tells how many lines are read.
 
-Status 3: this is no log, or one whose records repeat, or has no such line; 5: it can't be read or written.
+Status 3: this is no log, or one whose records repeat or whose operations have keys, or has no such line; 5: it can't be read or written.
 """
 
 import argparse
@@ -47,6 +47,8 @@ def value_of(found):
 def operation_of(line, row):
     if not NEEDED <= row.keys() or not lines.is_whole(row["begin"]) or not (row["end"] is None or lines.is_whole(row["end"])):
         raise lines.Refused(line, "this is no operation")
+    if "key" in row:
+        raise lines.Refused(line, "the operations of this log have keys, and each key is a register of its own")
     record, words = value_of(row["record"]), value_of(row["words"]) if "words" in row else None
     return Operation(line, row["who"], row["kind"], row["begin"], NEVER if row["end"] is None else row["end"], record, words or record)
 

@@ -83,6 +83,9 @@ class Operations:
         elif row.get("kind") == "done":
             if row.get("ops") != len(self.rows):
                 raise lines.Refused(where, f"there are {len(self.rows)} operations")
+        elif row.get("kind") == "floor":
+            # (a joined log is judged at its end, and needs none)
+            return
         elif lines.is_whole(row.get("who")) and lines.is_whole(row.get("begin")) and (row.get("end") is None or lines.is_whole(row["end"])):
             self.rows.append(row)
         else:

@@ -306,15 +306,16 @@ def run(name, page, read):
     be read or written."""
     parser = argparse.ArgumentParser(description=page, formatter_class=argparse.RawDescriptionHelpFormatter)
     parser.add_argument("--to", metavar="FOLDER")
-    parser.add_argument("--opening", metavar="VALUE", type=opening_of)
+    # (a list, as the value that is asked for may be `None`)
+    parser.add_argument("--opening", metavar="VALUE", type=lambda word: [opening_of(word)], default=[])
     parser.add_argument("--repeats", action="store_true")
     parser.add_argument("--failed-cas-missed", action="store_true")
     parser.add_argument("history", nargs="?")
     words = parser.parse_args()
     try:
         history = read(text_of_file(words.history))
-        if words.opening is not None:
-            history.opening = words.opening
+        for value in words.opening:
+            history.opening = value
         history.repeats, history.failed_missed = words.repeats, words.failed_cas_missed
         sys.stdout.reconfigure(encoding="utf-8")
         write_logs(history, words.to)

@@ -223,6 +223,9 @@ def main():
     if words.table:
         print("\n".join(table()))
         return 0
+    unknown = set(words.names) - {it.name for it in REGISTERS}
+    if unknown:
+        parser.error(f"there is no register {' '.join(sorted(unknown))}")
     faults = []
     for register in REGISTERS:
         if (words.names and register.name not in words.names) or (words.wrong and register.wanted != REFUSED):

@@ -1,7 +1,8 @@
 """Compares `fsr` with the plain reference on random documents.
 
-    compare.py PROGRAM [--documents N] [--seed S] [--kinds check,log,cell,matrix,board,race]
+    compare.py PROGRAM [--documents N] [--seed S] [--kinds KIND,..]
 
+The kinds are check, log, cell, matrix and board, and race if it is named.
 The last lines are how many documents gave the same bytes and status, by kind of ending, and how many there were, by their kind. None at all
 is status 1. The first difference ends the run with
 status 1, with the document kept in the file that is named. Where it depends on the run which writes of a race are refused, the
