@@ -1,4 +1,5 @@
-//! Memory that processes share, its claims, and what takes the library's memory from it: what is unsafe of the module `shared`.
+//! Memory that processes share, its claims, and what takes the library's memory from it: what is unsafe of the module `shared`, but for its
+//! traits, `create`, `attach` and `root`.
 //!
 //! The layout and what each call does are those of `nidzaru_shared.h`, so that programs in C, C++ and Rust attach to one block.
 #![allow(unsafe_code)]

@@ -34,7 +34,8 @@
 //!
 //! The crate links the static library that `./install PREFIX` of its repository installs. Its build script asks the program
 //! `pkg-config` where that is: each command of cargo needs `PKG_CONFIG_PATH=PREFIX/lib/pkgconfig` in its environment, where `PREFIX`
-//! is an absolute path without blanks. `cargo doc -p nidzaru` needs no library.
+//! is an absolute path without blanks. `cargo doc -p nidzaru` needs no library. The packaged crate, `nidzaru-VERSION.crate`, has the
+//! library inside: it needs neither `pkg-config` nor that variable.
 //!
 //! # Without the standard library
 //!

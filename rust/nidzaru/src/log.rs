@@ -38,8 +38,15 @@
 //! [`live`] logs are written while their threads run: [`Live::drain`] writes what they have ended by now, and a floor, below which nothing more
 //! begins. `fsr watch` reads that as it comes, and tells at once where it is lost. No thread waits. The floor is the least begin of what is
 //! under way. A thread that is between two calls holds it at its last end, until it [pauses](Log::pause); one that hasn't begun, has left or
-//! whose log is full doesn't hold it. A call that hangs or panics holds it at its begin, until its thread begins another, or is [given
-//! up](Live::give_up).
+//! whose log is full doesn't hold it. A call that hangs or panics holds it at its begin, until its thread is [given up](Live::give_up);
+//! behind a read that panicked, also until the thread pauses, leaves or begins another.
+//!
+//! # Calls that panic
+//!
+//! A read that panics is left out, and its thread may go on. A write that panics may have taken effect: it is written without an end, and
+//! is the last of its log, as operations of one thread don't overlap. If its thread begins another operation all the same, the logs aren't
+//! merged, and drains have a fault: [`MergeError::Unpaired`]. So let it go on with a log of another number. The same holds where the
+//! closure panics that says if a write took effect, or what a refused one saw.
 //!
 //! # Records
 //!
@@ -236,7 +243,7 @@ impl fmt::Display for NoRoom {
 
 impl std::error::Error for NoRoom {}
 
-/// Why logs weren't merged. Of the first two nothing is written.
+/// Why logs weren't merged. Of the first three nothing is written.
 #[derive(Debug)]
 #[non_exhaustive]
 pub enum MergeError {
@@ -249,6 +256,11 @@ pub enum MergeError {
     },
     /// A write was refused, and no limit was told.
     NoLimit,
+    /// A write of this thread panicked, and the thread began another operation. Nothing may follow that write, which has no end.
+    Unpaired {
+        /// The thread's number.
+        who: u64,
+    },
     /// This thread was given up, and began another operation.
     CameBack {
         /// The thread's number.
@@ -263,6 +275,7 @@ impl fmt::Display for MergeError {
         match self {
             MergeError::Full { who, lost } => write!(to, "the log of thread {who} had no room for {lost} operations"),
             MergeError::CameBack { who } => write!(to, "thread {who} was given up, and began another operation"),
+            MergeError::Unpaired { who } => write!(to, "a write of thread {who} panicked, and the thread began another operation"),
             MergeError::NoLimit => to.write_str("a write was refused, and no limit was told"),
             MergeError::Stream(error) => write!(to, "the lines weren't written: {error}"),
         }
@@ -333,8 +346,10 @@ pub struct Log {
     lost: u64,
     last_end: u64,
     fenced: bool,
-    /// A write that has begun, and when.
+    /// A write that has begun, and when. One that panicked stays.
     under_way: Option<(u64, Record)>,
+    /// Whether an operation began behind a write that panicked.
+    unpaired: bool,
     pace: Option<Pace>,
     feed: Option<Arc<Feed>>,
 }
@@ -418,7 +433,7 @@ impl Log {
         // (every page is there before the threads begin)
         operations.resize(room, Operation { kind: Kind::Read, begin: 1, end: 1, record: Record::default() });
         operations.clear();
-        Ok(Log { who, operations, room, lost: 0, last_end: 0, fenced: true, under_way: None, pace: None, feed: None })
+        Ok(Log { who, operations, room, lost: 0, last_end: 0, fenced: true, under_way: None, unpaired: false, pace: None, feed: None })
     }
 
     /// The same without the fence before the stamp of an end.
@@ -434,9 +449,9 @@ impl Log {
         self.pause();
     }
 
-    /// The thread may begin nothing for long. Until it does it doesn't hold the floor of a [`Live`] log.
+    /// The thread may begin nothing for long. Until it does it doesn't hold the floor of a [`Live`] log, unless its last write panicked.
     pub fn pause(&self) {
-        if let Some(feed) = &self.feed {
+        if let (Some(feed), None) = (&self.feed, &self.under_way) {
             feed.idle.store(true, Release);
         }
     }
@@ -446,7 +461,7 @@ impl Log {
         self.operations.len() == self.room
     }
 
-    /// Records a call that writes. A call that never returns, or panics, is written without an end.
+    /// Records a call that writes. A call that never returns, or panics, is written without an end, and nothing may follow it in this log.
     #[inline]
     pub fn write<T>(&mut self, record: Record, call: impl FnOnce() -> T) -> T {
         let (begin, given, end) = self.run_write(record, call);
@@ -479,7 +494,7 @@ impl Log {
     }
 
     /// Records a call that reads; `record` is that of what it gave, and is computed after the stamp of the end. A call that panics is left
-    /// out.
+    /// out, and another may follow it.
     #[inline]
     pub fn read<T>(&mut self, call: impl FnOnce() -> T, record: impl FnOnce(&T) -> Record) -> T {
         let begin = self.begin();
@@ -501,7 +516,6 @@ impl Log {
         let given = call();
         let end = clock::end(self.fenced);
         drop(leaves);
-        self.under_way = None;
         (begin, given, end)
     }
 
@@ -515,11 +529,24 @@ impl Log {
                 self.last_end = feed.wake();
             }
         }
+        if self.under_way.is_some() {
+            self.follow_panic();
+        }
         let begin = moment_after(self.last_end, clock::begin);
         if let Some(feed) = &self.feed {
             feed.begin.store(begin, Release);
         }
         begin
+    }
+
+    /// Whoever sees the begin that follows sees this.
+    #[cold]
+    #[inline(never)]
+    fn follow_panic(&mut self) {
+        self.unpaired = true;
+        if let Some(feed) = &self.feed {
+            feed.unpaired.store(true, Relaxed);
+        }
     }
 
     fn put(&mut self, operation: Operation) {
@@ -536,7 +563,8 @@ impl Log {
     }
 
     /// Nothing is under way any more.
-    fn rest(&self) {
+    fn rest(&mut self) {
+        self.under_way = None;
         if let Some(feed) = &self.feed {
             feed.writing.store(0, Release);
             if self.is_full() {
@@ -565,7 +593,9 @@ impl Log {
     }
 
     fn fault(&self, limit: Option<NonZeroU64>) -> Option<MergeError> {
-        if self.lost > 0 {
+        if self.unpaired {
+            return Some(MergeError::Unpaired { who: self.who });
+        } else if self.lost > 0 {
             return Some(MergeError::Full { who: self.who, lost: self.lost });
         }
         let refused = limit.is_none() && self.operations.iter().any(|it| it.kind == Kind::Refused);
@@ -608,6 +638,7 @@ struct Feed {
     idle: AtomicBool,
     lost: AtomicU64,
     refused: AtomicBool,
+    unpaired: AtomicBool,
 }
 
 impl Feed {
@@ -698,6 +729,8 @@ impl Seen {
         let (who, lost) = (feed.who, feed.lost.load(Acquire));
         if self.given_up.is_some_and(|last| last != feed.begin.load(Acquire)) {
             return Some(MergeError::CameBack { who });
+        } else if feed.unpaired.load(Relaxed) {
+            return Some(MergeError::Unpaired { who });
         } else if lost > 0 {
             return Some(MergeError::Full { who, lost });
         }
@@ -1000,18 +1033,83 @@ mod tests {
         assert_eq!(Log::new(0, usize::MAX).unwrap_err(), NoRoom);
     }
 
+    fn panics(call: impl FnOnce()) {
+        assert!(std::panic::catch_unwind(std::panic::AssertUnwindSafe(call)).is_err());
+    }
+
     #[test]
     fn a_call_that_panics() {
-        let mut log = Log::new(0, 2).unwrap();
-        let reads = std::panic::AssertUnwindSafe(|| log.read(|| panic!("planned"), |_: &()| FIRST));
-        assert!(std::panic::catch_unwind(reads).is_err());
-        assert_eq!(log.under_way, None);
-        let writes = std::panic::AssertUnwindSafe(|| log.write(FIRST, || panic!("planned")));
-        assert!(std::panic::catch_unwind(writes).is_err());
-        let lines = text(&[log], None).unwrap();
-        assert!(
-            lines.ends_with("{\"who\":0,\"kind\":\"write\",\"begin\":0,\"end\":null,\"record\":[1,9]}\n{\"kind\":\"done\",\"ops\":1}\n")
-        );
+        let writes: [fn(&mut Log); 3] = [
+            |log| log.write(FIRST, || panic!("planned")),
+            |log| log.write_if(FIRST, || (), |()| panic!("planned")),
+            |log| _ = log.try_write(FIRST, || Err::<(), _>(()), |()| panic!("planned")),
+        ];
+        for write in writes {
+            let mut log = Log::new(0, 2).unwrap();
+            panics(|| log.read(|| panic!("planned"), |_: &()| FIRST));
+            panics(|| log.read(|| (), |()| panic!("planned")));
+            assert_eq!(log.under_way, None);
+            panics(|| write(&mut log));
+            let lines = text(&[log], None).unwrap();
+            assert!(lines.ends_with(&(row(0, "write", 0, "null", 1) + "{\"kind\":\"done\",\"ops\":1}\n")));
+        }
+    }
+
+    /// What may come behind a write that panicked.
+    const FOLLOW: [fn(&mut Log); 4] = [
+        |log| log.write(SECOND, || ()),
+        |log| _ = log.read(|| OPENING, |it| *it),
+        |log| log.write_if(SECOND, || (), |()| false),
+        |log| panics(|| log.read(|| panic!("planned"), |()| OPENING)),
+    ];
+
+    #[test]
+    fn nothing_may_follow_a_write_that_panicked() {
+        for follow in FOLLOW {
+            let mut log = Log::new(7, 4).unwrap();
+            log.read(|| OPENING, |it| *it);
+            panics(|| log.write(FIRST, || panic!("planned")));
+            follow(&mut log);
+            let logs = [Log::new(6, 0).unwrap(), log];
+            let mut nothing = Vec::new();
+            assert!(matches!(lines(&mut nothing, &logs), Err(MergeError::Unpaired { who: 7 })) && nothing.is_empty());
+            let error = text(&logs, None).unwrap_err();
+            assert_eq!(error.to_string(), "a write of thread 7 panicked, and the thread began another operation");
+        }
+    }
+
+    #[test]
+    fn nothing_may_follow_a_write_that_panicked_in_a_live_log() {
+        for follow in FOLLOW {
+            let ([mut one, _two], mut live) = fed();
+            panics(|| one.write(SECOND, || panic!("planned")));
+            assert_eq!(drained(&mut live), first_rows() + &floor(104, 5));
+            follow(&mut one);
+            let mut text = Vec::new();
+            assert!(matches!(live.drain(&mut text), Err(MergeError::Unpaired { who: 3 })));
+            assert!(matches!(live.finish(&mut text), Err(MergeError::Unpaired { who: 3 })));
+            assert_eq!(String::from_utf8(text).unwrap(), "{\"kind\":\"fault\"}\n".repeat(2));
+        }
+    }
+
+    /// It holds the floor until its thread is given up, although the thread leaves. A read that panicked holds it no more then.
+    #[test]
+    fn a_write_that_panicked_is_the_last() {
+        let ([mut one, mut two], mut live) = fed();
+        panics(|| one.write(SECOND, || panic!("planned")));
+        panics(|| two.read(|| panic!("planned"), |()| OPENING));
+        begin_at(&one, 120);
+        one.leave();
+        two.leave();
+        assert_eq!(drained(&mut live), first_rows() + &floor(120, 3));
+        let mut text = Vec::new();
+        assert_eq!(live.finish(&mut text).unwrap(), 3);
+        assert!(String::from_utf8(text).unwrap().starts_with(&row(3, "write", 120, "null", 2)));
+        let ([_one, mut two], mut live) = fed();
+        panics(|| two.read(|| panic!("planned"), |()| OPENING));
+        two.read(|| OPENING, |it| *it);
+        set_fed(&two, 1, 150, 160);
+        assert_eq!(drained(&mut live), first_rows() + &row(5, "read", 150, "160", 0) + &floor(110, 3));
     }
 
     #[test]
@@ -1083,12 +1181,10 @@ mod tests {
         two.write(FIRST, || ());
         assert_eq!(waits(&mut one), [0; 8]);
         let [mut one, mut two] = paced(20, 20, 2);
-        let writes = std::panic::AssertUnwindSafe(|| two.write(FIRST, || panic!("planned")));
-        assert!(std::panic::catch_unwind(writes).is_err());
+        panics(|| two.write(FIRST, || panic!("planned")));
         assert_eq!(waits(&mut one), [0; 8]);
         let [mut one, mut two] = paced(20, 20, 2);
-        let reads = std::panic::AssertUnwindSafe(|| two.read(|| panic!("planned"), |_: &()| FIRST));
-        assert!(std::panic::catch_unwind(reads).is_err());
+        panics(|| two.read(|| panic!("planned"), |_: &()| FIRST));
         assert_eq!(waits(&mut one), [0; 8]);
     }
 

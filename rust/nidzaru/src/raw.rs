@@ -1,4 +1,5 @@
-//! The library's calls, and all that is unsafe of this crate, but for what the module `watched` tells ThreadSanitizer.
+//! The library's calls, and what is unsafe about them. `unsafe` stands also in the clock of `log`, in what `watched` tells ThreadSanitizer,
+//! and in `block` and `shared`.
 //!
 //! What a call owes (the library's page for C lists it), and why it is met here:
 //!
@@ -15,8 +16,8 @@
 //!    thread. What `T` borrows lives as long as the sides and places, whose types name it: a writer takes no `T` of a shorter lifetime and, since
 //!    its slot shows an older one, gives none of a longer one; nor does a reader.
 //! 5. *The calls are those of the record's size.* They are chosen by `size_of::<T>()` at [`open`] and at each call, in one way.
-//! 6. *No call from a signal handler or a forked child of a process with threads, and one allocator*: this is left to the program, as
-//!    it is for its own use of std's allocator.
+//! 6. *A signal handler, and the forked child of a process with threads, makes and ends nothing, and uses no handle that a call was using
+//!    at that moment; and there is one allocator*: this is left to the program, as it is for its own use of std's allocator.
 #![allow(unsafe_code)]
 
 use crate::watched::{ignore, Order};
