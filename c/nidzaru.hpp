@@ -96,9 +96,10 @@ class side {
 
   protected:
     ~side() = default;
-    // (the handle is empty, and the other one is where it was made, so that no move is refused)
+    // (the handle is emptied first, as no end takes a side that was cut off; the other one is where it was made, so no move is refused)
     void take(side &from) noexcept {
-        if (nidzaru_move_handle(&handle, &from.handle)) handle.side.live = 0;
+        handle = {{0, nullptr}, nullptr, nullptr};
+        (void)!nidzaru_move_handle(&handle, &from.handle);
     }
     nidzaru_handle handle = {{0, nullptr}, nullptr, nullptr};
 };

@@ -19,7 +19,7 @@
  * an operation, while it is so many ahead of the slowest. It looks by loads alone, which order nothing between the threads' calls:
  *
  *   nidzaru_log *logs[] = {&first, &second};
- *   nidzaru_log_pace(logs, 2, 200);
+ *   nidzaru_log_pace(logs, 2, 200);                          the array and its logs stay where they are until all threads are joined
  *
  * A thread whose log is full holds up nobody; one that stops before says nidzaru_log_leave(&log). When the threads are joined, or stand
  * still for good:
@@ -393,7 +393,8 @@ NIDZARU_LOG_INLINE void nidzaru_log_show(void) {
 }
 
 /* Paces the threads of these logs, none of which has begun: none begins an operation while another one that hasn't left is behind it by so
- * many. With 0 nobody waits. */
+ * many. With 0 nobody waits. Each log keeps a pointer to the array, and its thread looks at the others' logs: the array and its logs have
+ * to stay where they are, and the logs open, until all threads are joined. */
 NIDZARU_LOG_INLINE void nidzaru_log_pace(nidzaru_log *const *logs, size_t count, uint64_t ahead) {
     for (size_t at = 0; at < count; at++) {
         logs[at]->beside = logs;

@@ -22,9 +22,15 @@
  *   limits_recover_writer(&block, &plant->limits, &writer)  a claim that also takes over from an owner that died within a call
  *   nidzaru_shared_detach(&block), nidzaru_shared_unlink(&block, "/plant")
  *
- * Each call answers 0, a status of nidzaru.h, or one of those below, and with any but 0 it has changed nothing. No call of a register or
- * board touches a claim. If the owner of a claim dies between two calls, others may claim its side, which is as it left it. If it dies
- * within a call, a claim is refused with NIDZARU_SHARED_OWNER_DEAD; the other sides go on. Over four slots a recovery takes the side over.
+ * Each call answers 0, a status of nidzaru.h, or one of those below, and with any but 0 it has changed nothing; but a make that finds too
+ * little room in the block doesn't give back what it took of it. No call of a register or board touches a claim. If the owner of a claim
+ * dies between two calls, others may claim its side, which is as it left it. If it dies within a call, a claim is refused with
+ * NIDZARU_SHARED_OWNER_DEAD; the other sides go on. Over four slots a recovery takes the side over.
+ *
+ * If the maker dies before the block is open, an attach answers NIDZARU_SHARED_OWNER_DEAD. If it is killed within the create or the
+ * opening, that may be NIDZARU_SHARED_NOT_READY, for ever. The name stays, and a create answers NIDZARU_SHARED_NAME_TAKEN: shm_unlink takes
+ * it away.
+ *
  * docs/C.md has the rest, "Between processes". */
 #ifndef NIDZARU_SHARED_H
 #define NIDZARU_SHARED_H
@@ -559,7 +565,7 @@ static int nidzaru_take_claim(nidzaru_shared *block, nidzaru_claim *claim) {
         why = pthread_mutex_consistent(&claim->mutex);
     }
     if (why) return NIDZARU_SHARED_CLAIMED;
-    claim->process = block->process;
+    __atomic_store_n(&claim->process, block->process, __ATOMIC_RELAXED);
     return NIDZARU_DONE;
 }
 
@@ -659,6 +665,8 @@ int nidzaru_item_recover(nidzaru_shared *block, nidzaru_item *item, nidzaru_clai
 int nidzaru_item_yield(nidzaru_shared *block, nidzaru_claim *claim) {
     if (!nidzaru_lies_in(block, claim)) return NIDZARU_SHARED_ELSEWHERE;
     nidzaru_count_own(block);
+    /* (before the make the claim is all zeros: of no process, and with a mutex that the system would unlock for anybody) */
+    if (__atomic_load_n(&claim->process, __ATOMIC_RELAXED) != block->process) return NIDZARU_SHARED_NOT_OWNER;
     if (pthread_mutex_unlock(&claim->mutex)) return NIDZARU_SHARED_NOT_OWNER;
     __atomic_fetch_sub(&block->held, 1, __ATOMIC_RELEASE);
     return NIDZARU_DONE;

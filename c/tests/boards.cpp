@@ -339,6 +339,27 @@ template <cell C> void ends() {
     check(blocks == had, "blocks that are left");
 }
 
+// A place that was cut off can't be ended: one that is moved there takes its place.
+template <cell C> void moves_onto_cut_off() {
+    const long had = blocks;
+    {
+        auto places = nidzaru::make_board<2, C>(plan{1, 2, 3});
+        auto others = nidzaru::make_board<2, C>(plan{4, 5, 9});
+        auto &handle = reinterpret_cast<nidzaru_handle &>(places[0]);
+        auto kept = handle;
+        plan x{};
+        stamp given;
+        handle.side.live = NIDZARU_BUSY;
+        check(places[0].read(x, given) == NIDZARU_CUT_OFF && places[0].end() == NIDZARU_CUT_OFF && places[0], "a place that was cut off");
+        places[0] = std::move(others[0]);
+        check(!others[0] && others[0].write(x, given) == NIDZARU_ENDED && !places[0].write({7, 7, 14}, given), "a place where it was");
+        check(others[1].latest()->sum == 14 && places[1].latest()->sum == 3, "it writes to its own board");
+        // (the memory of the place that was cut off, which no class gives back)
+        check(!nidzaru_sized_board_end(C == cell::triple, sizeof x, &kept), "the memory of a place that was cut off");
+    }
+    check(blocks == had, "blocks after a place that was cut off");
+}
+
 // How often the board asks for memory, counted while each request is refused in turn.
 template <std::size_t N, cell C> void memory() {
     for (long at = 1;; at++) {
@@ -393,6 +414,7 @@ template <cell C> void all(std::uint64_t many) {
     inside_records<C>();
     odd_records<C>();
     ends<C>();
+    moves_onto_cut_off<C>();
     memory<2, C>();
     memory<5, C>();
     limits<C>();

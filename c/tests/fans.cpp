@@ -79,6 +79,25 @@ template <nidzaru::cell C> static void calls() {
     check(blocks == had, "all memory is given back");
 }
 
+// A writer that was cut off can't be ended: one that is moved there takes its place.
+template <nidzaru::cell C> static void moves_onto_cut_off() {
+    const long had = blocks;
+    {
+        auto [writer, readers] = nidzaru::make_fan<2, C>(whole{0, 1, 2});
+        auto [other, others] = nidzaru::make_fan<2, C>(whole{3, 4, 5});
+        auto &handle = reinterpret_cast<nidzaru_handle &>(writer);
+        auto kept = handle;
+        handle.side.live = NIDZARU_BUSY;
+        check(writer.write({6, 6, 6}) == NIDZARU_CUT_OFF && writer.end() == NIDZARU_CUT_OFF && writer, "a writer that was cut off");
+        writer = std::move(other);
+        check(!other && other.write({7, 7, 7}) == NIDZARU_ENDED && !writer.write({8, 8, 8}), "a writer in its place");
+        check(others[0].latest()->low == 8 && others[1].latest()->low == 8 && readers[0].latest()->low == 0, "writes to its own readers");
+        // (the memory of the side that was cut off, which no class gives back)
+        check(!nidzaru_fan_end(C == nidzaru::cell::triple, sizeof(whole), &kept), "the memory of a writer that was cut off");
+    }
+    check(blocks == had, "all memory is given back after a writer that was cut off");
+}
+
 static void copies() {
     auto [writer, readers] = nidzaru::make_fan<2>(part{7});
     check(!writer.write(part{8}) && readers[0].latest()->low == 8 && readers[1].latest()->low == 8, "a record that is copied");
@@ -114,6 +133,8 @@ static void memory() {
 int main() {
     calls<nidzaru::cell::four_slot>();
     calls<nidzaru::cell::triple>();
+    moves_onto_cut_off<nidzaru::cell::four_slot>();
+    moves_onto_cut_off<nidzaru::cell::triple>();
     copies();
     memory();
     if (failed) return 1;

@@ -132,6 +132,9 @@ static void make_all(nidzaru_shared *block, struct plant *plant) {
     limits_writer *writer;
     const size_t left = nidzaru_shared_left(block), before = mallocs;
     is("a claim of what isn't made", limits_claim_writer(block, &plant->limits, &writer), NIDZARU_SHARED_NOT_READY);
+    is("a yield of what isn't made", limits_yield_writer(block, &plant->limits), NIDZARU_SHARED_NOT_OWNER);
+    is("a yield of a board that isn't made", turns_yield(block, &plant->turns, 0), NIDZARU_SHARED_NOT_OWNER);
+    holds("the maker's claim is counted", block->held == 1);
     is("a register outside", limits_shared_make(block, &outside, &first), NIDZARU_SHARED_ELSEWHERE);
     is("a register", limits_shared_make(block, &plant->limits, &first), 0);
     is("a register once more", limits_shared_make(block, &plant->limits, &first), NIDZARU_IN_USE);
@@ -237,6 +240,8 @@ static void hand_over(nidzaru_shared *block, struct plant *plant) {
     is("a detach of a child, which has none", in_child(detach_it, block), 0);
     is("a yield", limits_yield_writer(block, &plant->limits), 0);
     is("a yield once more", limits_yield_writer(block, &plant->limits), NIDZARU_SHARED_NOT_OWNER);
+    is("a yield of a register that isn't made", limits_yield_reader(block, &plant->later), NIDZARU_SHARED_NOT_OWNER);
+    holds("no claim is counted", !block->held);
     is("a writer that ends without a yield", elsewhere("claim"), 0);
     is("the reader", limits_claim_reader(block, &plant->limits, &reader), 0);
     is("a writer that yields", elsewhere("write"), 0);

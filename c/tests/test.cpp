@@ -107,6 +107,38 @@ void moves_into_live() {
     check(blocks == had, "blocks after moves");
 }
 
+// Marks a side as one whose last call was cut off, and gives the handle that it had.
+template <class Side> nidzaru_handle cut_off(Side &side) {
+    auto &handle = reinterpret_cast<nidzaru_handle &>(side);
+    const nidzaru_handle had = handle;
+    check(had.home == &handle, "where the handle of an object lies");
+    handle.side.live = NIDZARU_BUSY;
+    return had;
+}
+
+// A side that was cut off can't be ended: one that is moved there takes its place.
+template <nidzaru::cell C> void moves_onto_cut_off() {
+    const long before = blocks;
+    {
+        auto [w, r] = nidzaru::make<whole, C>(whole{{1, 0, 0}});
+        auto [v, s] = nidzaru::make<whole, C>(whole{{2, 0, 0}});
+        auto writing = cut_off(w), reading = cut_off(r);
+        whole x{};
+        std::uint64_t n = 77;
+        check(w.write(x) == NIDZARU_CUT_OFF && r.read(x, n) == NIDZARU_CUT_OFF, "calls of sides that were cut off");
+        check(w.end() == NIDZARU_CUT_OFF && r.end() == NIDZARU_CUT_OFF && w && r, "ends of sides that were cut off");
+        w = std::move(v);
+        r = std::move(s);
+        check(!v && !s && v.write(x) == NIDZARU_ENDED && s.read(x, n) == NIDZARU_ENDED, "the sides that were moved there");
+        check(w.write({{3, 0, 0}}) == NIDZARU_DONE && r.read(x, n) == NIDZARU_DONE && x.words[0] == 3 && n == 1, "what took their place");
+        // (the memory of the sides that were cut off, which no class gives back)
+        const int triple = C == nidzaru::cell::triple;
+        check(!nidzaru_sized_end_writer(triple, sizeof x, &writing), "the memory of a writer that was cut off");
+        check(!nidzaru_sized_end_reader(triple, sizeof x, &reading), "the memory of a reader that was cut off");
+    }
+    check(blocks == before, "blocks after moves onto sides that were cut off");
+}
+
 void news() {
     auto [w, r] = nidzaru::make(whole{{1, 2, 3}});
     std::uint64_t n = 77;
@@ -300,6 +332,8 @@ int main(int count, char **words) {
     threads<nidzaru::cell::triple, larger>(many / 16 + 1, filled<larger>, same<larger>);
     moves();
     moves_into_live();
+    moves_onto_cut_off<nidzaru::cell::four_slot>();
+    moves_onto_cut_off<nidzaru::cell::triple>();
     news();
     odd_types<nidzaru::cell::four_slot>();
     odd_types<nidzaru::cell::triple>();
