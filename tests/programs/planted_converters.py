@@ -122,7 +122,7 @@ PLANTED = [
     ("a status of 3 for a stream", "lines.py", "return 5", "return 3", "streams"),
     ("bytes that aren't UTF-8", "lines.py", "read.decode()", 'read.decode(errors="replace")', "jepsen_bytes"),
     ("half a letter", "lines.py", "text.encode()", "", "jepsen_half"),
-    ("an opening that isn't heard", "lines.py", "history.opening = words.opening", "pass", "jepsen_opening"),
+    ("an opening that isn't heard", "lines.py", "history.opening = value", "pass", "jepsen_opening"),
     ("a begin that isn't widened", "join.py", 'row["begin"] = max(0, row["begin"] - skew)', "pass", "joined"),
     ("an end that isn't widened", "join.py", 'min(lines.GREATEST, row["end"] + skew)', 'row["end"]', "joined"),
     ("a time below 0", "join.py", 'max(0, row["begin"] - skew)', 'row["begin"] - skew', "joined"),
