@@ -508,6 +508,8 @@ CLASSES = [
     *[(f"a copyable {kind}", f"{kind}({kind} &&) = default;",
        f"{kind}({kind} &&) = default; {kind}(const {kind} &from) : side() {{ take(const_cast<{kind} &>(from)); }}", "objects", f"{kind}s move")
       for kind in ("writer", "place")],
+    ("a side that was cut off, which no other one replaces", "handle = {{0, nullptr}, nullptr, nullptr}; (void)!", "(void)!",
+     "test.cpp"),
     *[(f"an assigned {kind} without what it saw", member(kind) + " last = from.last;", member(kind), test)
       for kind, test in (("reader", "test.cpp"), ("place", "objects"))],
     ("empty places where memory is refused", "if (status) throw std::bad_alloc();", "", "objects"),

@@ -287,6 +287,7 @@ plant_faults() {
     planted 's/__ATOMIC_RELAXED)) return NIDZARU_IN_USE/__ATOMIC_RELAXED) \&\& 0) return NIDZARU_IN_USE/' 'a claim.*'
     planted '/nidzaru_lies_in(block, item)) return/d' 'a register outside'
     planted 's/    else __atomic_fetch_add(&block->held, 1, __ATOMIC_RELAXED);//' '.*'
+    planted '/__ATOMIC_RELAXED) != block->process) return/d' 'a yield of what .*'
     planted '/if (claim->process == block->process)/d' 'a detach'
     planted '/if (held == 1 &&/d' 'a detach'
     planted 's/    if (block->process == getpid()) return;/    return;/' 'a detach of a child, which has none'
