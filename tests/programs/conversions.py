@@ -324,6 +324,11 @@ PORCUPINE = {
         keys('0 invoke put x "1"', '0 info put x "1"', "0 invoke get x nil", '0 ok get x "1"'),
         {"x": log("lawful", '1 write 0 null "\\"1\\""', '0 read 2 3 "\\"1\\""', opening='"\\"\\""')},
     ),
+    "opening_of_nil": (
+        keys("0 invoke get x nil", "0 ok get x nil"),
+        {"x": log("lawful", '0 read 0 1 "nil"')},
+        ("--opening", "nil"),
+    ),
     "unknown_type": (keys('0 invoke put x "1"', '0 done put x "1"'), "line 2: :done is no type"),
     "no_key": ('{:process 0, :type :invoke, :f :put, :value "1"}\n', "line 1: this is no event"),
     "no_event": ('{:process 0, :type :invoke, :f :put, :key "x", :value "1"}\nwhy\n', "line 2: this is no event"),

@@ -123,6 +123,8 @@ PLANTED = [
     ("bytes that aren't UTF-8", "lines.py", "read.decode()", 'read.decode(errors="replace")', "jepsen_bytes"),
     ("half a letter", "lines.py", "text.encode()", "", "jepsen_half"),
     ("an opening that isn't heard", "lines.py", "history.opening = value", "pass", "jepsen_opening"),
+    ("an opening of nil, taken for none", "lines.py", "history.opening = value", "history.opening = history.opening if value is None else value",
+     "porcupine_opening_of_nil"),
     ("a begin that isn't widened", "join.py", 'row["begin"] = max(0, row["begin"] - skew)', "pass", "joined"),
     ("an end that isn't widened", "join.py", 'min(lines.GREATEST, row["end"] + skew)', 'row["end"]', "joined"),
     ("a time below 0", "join.py", 'max(0, row["begin"] - skew)', 'row["begin"] - skew', "joined"),
