@@ -102,6 +102,36 @@ BELOW
     [ -s "$room/by_shell" ] && sed -i 's/ *$//' "$room/by_shell" "$room/by_python" && diff "$room/by_shell" "$room/by_python"
 }
 
+# Sees which programs of a small repository the shell takes for stale if one file is newer than what was built.
+#   sees_stale FILE NAMES..
+sees_stale() {
+    newer=$1
+    shift
+    touch -d '2001-01-03' "$top/$newer"
+    stale=$(for name in fsr picture fsr_check; do is_fresh "$name" || echo "$name"; done | tr '\n' ' ')
+    touch -d '2001-01-01' "$top/$newer"
+    [ "$stale" = "$*${1:+ }" ] || { echo "with $newer newer these are stale: $stale" && return 1; }
+}
+
+# Of what each program is made, as the shell sees it by the times of files.
+compare_times() {
+    top=. && . build/build.sh
+    top="$room/times"
+    rm -rf "$top"
+    mkdir -p "$top/c" "$top/crates/low/specs"
+    printf 'low:\nfsr: low\npicture: low\nfsr_check:\n' >"$top/crates.txt"
+    touch "$top/c/os.c" "$top/crates/low/specs/Low.antt"
+    for name in fsr picture fsr_check; do
+        mkdir -p "$top/crates/$name/src" "$top/crates/$name/out"
+        touch "$top/crates/$name/src/main.rt"
+        printf '#!/bin/sh\n' >"$top/crates/$name/out/$name" && chmod +x "$top/crates/$name/out/$name"
+    done
+    find "$top" -exec touch -d '2001-01-01' {} +
+    touch -d '2001-01-02' "$top"/crates/*/out/*
+    sees_stale crates/low/must-fail && sees_stale c/os.c fsr picture && sees_stale crates/low/specs/Low.antt fsr picture \
+        && sees_stale crates/fsr_check/src/main.rt fsr_check && sees_stale crates.txt fsr picture fsr_check
+}
+
 # Sees that a build gives as many jobs as are allotted and no more, by what it chooses for a program where the cheapest proof always ends
 # first.
 give_jobs() {
@@ -165,6 +195,13 @@ else
     fi
     catches_in_tree "a closure without a crate's last word" "^> history_check history_core" build/build.sh 's/i <= count; i++/i < count; i++/' \
         compare_below
+    if (compare_times) >"$room/out" 2>&1; then
+        pass "what is newer than a program, by the times of files"
+    else
+        fail "what is newer than a program, by the times of files" "$(tail -n 2 "$room/out" | tr '\n' ' ')"
+    fi
+    catches_in_tree "a linked file that isn't looked at" "^with c/os.c newer these are stale: $" build/build.sh 's/linked=c.os.c ;;/linked= ;;/' \
+        compare_times
     if give_jobs >"$room/out" 2>&1; then
         pass "no more jobs are given than are allotted"
     else

@@ -127,6 +127,22 @@ else
     fail "planted: each script has a shell of its own" "$told"
 fi
 
+# Of scripts that are named together each is run, those that run apart in their own way.
+told=$(
+    run() {
+        echo "$1"
+    }
+    run_apart() {
+        echo "apart $1"
+    }
+    run_each tests/library/shared.sh tests/gate/map.sh tests/arm.sh tests/programs/words.sh | tr '\n' ' '
+)
+if [ "$told" = 'apart tests/library/shared.sh tests/gate/map.sh apart tests/arm.sh tests/programs/words.sh ' ]; then
+    pass "planted: each script that is named is run"
+else
+    fail "planted: each script that is named is run" "$told"
+fi
+
 # The library counts as proved if both builds pass, each prover's last line has no other word, and the second machine's verdict is of the
 # first one's proofs.
 told=$(
