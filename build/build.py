@@ -54,7 +54,7 @@ FIRST = ("fsr_check", "fsr_log", "fsr_once", "fsr_order", "fsr_coherent", "fsr_p
 TRIES, MORE = 300, 0.5
 # Seconds after which a folder that another build works in is asked for again.
 PAUSE = 1
-# The prover's allocator keeps what was freed for what comes next. (To give it back and ask for it again takes a thirtieth of a proof.)
+# The prover's allocator keeps what was freed for what comes next. (To give it back and ask for it again took 2 to 12 % of a few proofs.)
 KEPT_MEMORY = {"MIMALLOC_PURGE_DELAY": "-1"}
 
 
