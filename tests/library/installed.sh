@@ -177,6 +177,40 @@ over_link() {
     return $said
 }
 
+# Installs, or uninstalls, where the library's folder is a link to another one, outside of the prefix, that isn't there.
+#   over_loose_link install|uninstall
+over_loose_link() {
+    rm -rf "$clean/listed" && install_to "$clean/listed" lib >/dev/null && rm -r "$clean/listed/lib" || return 1
+    ln -s "$clean/unmounted" "$clean/listed/lib" && echo "of an older version" >"$clean/listed/include/nidzaru.h" || return 1
+    if [ "$1" = install ]; then install_to "$clean/listed" lib; else in_clean "$unpacked/install" --uninstall "$clean/listed"; fi
+    said=$?
+    grep -qx 'of an older version' "$clean/listed/include/nidzaru.h" || echo "the header is another"
+    return $said
+}
+
+# Whether an installation into a folder that is a link to the one of the installation before keeps the library, and can be taken away.
+keeps_same_folder() {
+    rm -rf "$clean/listed" && install_to "$clean/listed" lib && ln -s lib "$clean/listed/lib64" && install_to "$clean/listed" lib64 || return 1
+    in_c tasks.c "$clean/listed/lib64" && in_clean "$unpacked/install" --uninstall "$clean/listed" || return 1
+    [ -z "$(find "$clean/listed" -type f)" ]
+}
+
+# Whether an installation beside a link with the name of a file that is half put leaves alone what that leads to.
+writes_no_link() {
+    rm -rf "$clean/listed" && mkdir -p "$clean/listed/include" && echo "kept" >"$clean/kept" || return 1
+    ln -s "$clean/kept" "$clean/listed/include/nidzaru.h.new" && install_to "$clean/listed" lib || return 1
+    grep -qx kept "$clean/kept" && [ -f "$clean/listed/include/nidzaru.h" ] && [ ! -L "$clean/listed/include/nidzaru.h" ]
+}
+
+# Whether an installation that is ended within a file leaves nothing that --uninstall doesn't take away.
+leaves_no_half() {
+    mkdir "$clean/stopping" && printf '#!/bin/sh\ncase $3 in */nidzaru.h) kill -TERM $PPID && exit ;; esac\nexec /bin/mv "$@"\n' \
+        >"$clean/stopping/mv" && chmod 755 "$clean/stopping/mv" && rm -rf "$clean/listed" || return 1
+    ! in_clean PATH="$clean/stopping:$clean/bin" "$unpacked/install" "$clean/listed" || return 1
+    [ -f "$clean/listed/share/nidzaru/files" ] && in_clean "$unpacked/install" --uninstall "$clean/listed" || return 1
+    [ -z "$(find "$clean/listed" -type f)" ]
+}
+
 # Installs onto the unpacked folder, or takes away what is there, by its path or a link to it.
 onto_itself() {
     ln -sfn "$unpacked" "$clean/same"
@@ -291,7 +325,11 @@ check_uninstall() {
     done
     for task in install uninstall; do
         is_only_refused "$task over a link out of the prefix" 'include leads out of the prefix' over_link "$task"
+        is_only_refused "$task over a link to what isn't there" 'lib leads out of the prefix or nowhere' over_loose_link "$task"
     done
+    check "LIBDIR by a link to the folder of before" keeps_same_folder
+    check "install beside a link with the name of a half file" writes_no_link
+    check "an install that is ended within a file" leaves_no_half
     for folder in "$unpacked" "$clean/same" "$clean/same/"; do
         is_only_refused "install onto itself, ${folder#"$room/"}" 'is where the library lies' onto_itself "$folder" ''
         is_only_refused "uninstall of itself, ${folder#"$room/"}" 'is where the library lies' onto_itself "$folder" --uninstall
