@@ -227,24 +227,31 @@ NIDZARU_LOG_CHECKED int nidzaru_log_open(nidzaru_log *log, uint64_t who, size_t 
 }
 
 #if NIDZARU_LOG_FILES
-/* Maps a file, and closes it. Answers the block, or nothing. */
+/* Maps a file. Answers the block, or nothing. */
 NIDZARU_LOG_INLINE void *nidzaru_log_map(int file, size_t size, int flags) {
     void *block = file < 0 || !size ? MAP_FAILED : mmap(NULL, size, PROT_READ | PROT_WRITE, flags, file, 0);
-    if (file >= 0) close(file);
     return block == MAP_FAILED ? NULL : block;
 }
 
-/* The same in a file, which keeps what the thread did if the program is killed. The file is made anew. */
+/* Makes a file as long as a log, and maps it. What is in it stays. Answers the block, or nothing: then the file is as long as before. */
+NIDZARU_LOG_INLINE void *nidzaru_log_map_resized(int file, size_t size) {
+    off_t length = NIDZARU_LOG_CAST(off_t, size), before = file < 0 ? -1 : lseek(file, 0, SEEK_END);
+    void *block = before < 0 || posix_fallocate(file, 0, length) ? NULL : nidzaru_log_map(file, size, MAP_SHARED);
+    if (block && !ftruncate(file, length)) return block;
+    if (block) munmap(block, size);
+    if (before >= 0) (void)!ftruncate(file, before);
+    return NULL;
+}
+
+/* The same in a file, which keeps what the thread did if the program is killed. The file is made anew. If the answer isn't 0, a file that
+ * was there is as before, and none is made. */
 NIDZARU_LOG_CHECKED int nidzaru_log_open_file(nidzaru_log *log, uint64_t who, size_t room, const char *path) {
     size_t size = nidzaru_log_size(room);
-    int file = size ? open(path, O_RDWR | O_CREAT | O_TRUNC, 0666) : -1;
-    void *block;
+    int made = open(path, O_RDWR | O_CREAT | O_EXCL, 0666), file = made < 0 ? open(path, O_RDWR | O_CREAT, 0666) : made;
+    void *block = nidzaru_log_map_resized(file, size);
     memset(log, 0, sizeof *log);
-    if (file >= 0 && posix_fallocate(file, 0, NIDZARU_LOG_CAST(off_t, size))) {
-        close(file);
-        return NIDZARU_LOG_NO_FILE;
-    }
-    block = nidzaru_log_map(file, size, MAP_SHARED);
+    if (file >= 0) close(file);
+    if (!block && made >= 0) unlink(path);
     if (!block) return NIDZARU_LOG_NO_FILE;
     nidzaru_log_begin_block(log, block, size, who, room);
     log->mapped = size;
@@ -279,6 +286,7 @@ NIDZARU_LOG_CHECKED int nidzaru_log_open_left(nidzaru_log *log, const char *path
     off_t end = file < 0 ? 0 : lseek(file, 0, SEEK_END);
     size_t size = end > 0 && NIDZARU_LOG_CAST(uint64_t, end) >= sizeof(nidzaru_log_state) ? NIDZARU_LOG_CAST(size_t, end) : 0;
     void *block = nidzaru_log_map(file, size, MAP_PRIVATE);
+    if (file >= 0) close(file);
     memset(log, 0, sizeof *log);
     if (!block) return NIDZARU_LOG_NO_FILE;
     nidzaru_log_take_block(log, block);

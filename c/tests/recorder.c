@@ -1,4 +1,39 @@
 /* The recorder's own rules: what is told, what is lost, what isn't merged. C11 and C++17. The last line is `passed`. */
+#include <stdio.h>
+#if defined(_POSIX_C_SOURCE) && _POSIX_C_SOURCE >= 200112L
+#include <errno.h>
+#include <fcntl.h>
+#include <string.h>
+#include <sys/mman.h>
+#include <unistd.h>
+
+/* What is refused of a log in a file: nothing, space for it, which it gets in part, a place in memory, or its length, once. */
+enum { NO_REFUSAL, SPACE, PLACE, LENGTH };
+static int refused;
+
+static int make_space(int file, off_t from, off_t size) {
+    if (refused != SPACE) return posix_fallocate(file, from, size);
+    return ftruncate(file, size - 1) ? errno : ENOSPC;
+}
+
+static void *make_place(void *at, size_t size, int protection, int flags, int file, off_t from) {
+    return refused == PLACE ? MAP_FAILED : mmap(at, size, protection, flags, file, from);
+}
+
+static int make_length(int file, off_t length) {
+    if (refused != LENGTH) return ftruncate(file, length);
+    refused = NO_REFUSAL;
+    return -1;
+}
+
+/* No file of the system is taken away, whatever is wrong with the recorder. */
+static int take_away(const char *path) { return strncmp(path, "/dev/", 5) ? unlink(path) : -1; }
+
+#define posix_fallocate make_space
+#define mmap make_place
+#define ftruncate make_length
+#define unlink take_away
+#endif
 #include "nidzaru_log.h"
 
 static int failed;
@@ -477,6 +512,32 @@ static void check_spoilt(const char *what, const char *path, size_t at, int byte
     check(nidzaru_log_open_left(&one, path) == NIDZARU_LOG_NO_FILE && !one.state, what);
 }
 
+/* A log for which there is no file leaves one that was there as it was, and makes none. */
+static void check_kept(const char *what, const char *path, int refuses, size_t room) {
+    check(nidzaru_log_open_file(&one, 3, 4, path) == 0, "a log in a file");
+    write_one(&one, first);
+    nidzaru_log_close(&one);
+    for (int is_there = 1; is_there >= 0; is_there--) {
+        refused = refuses;
+        check(nidzaru_log_open_file(&one, 5, room, path) == NIDZARU_LOG_NO_FILE && !one.state, what);
+        refused = NO_REFUSAL;
+        check(nidzaru_log_open_left(&one, path) == (is_there ? 0 : NIDZARU_LOG_NO_FILE), what);
+        check(!is_there || (one.state && one.state->who == 3 && one.state->count == 1 && one.operations[0].record.number == 1), what);
+        if (one.state) nidzaru_log_close(&one);
+        check((remove(path) == 0) == is_there, what);
+    }
+}
+
+/* A new log in place of a longer one. */
+static void check_shorter(const char *path) {
+    for (size_t less = 0; less < 9; less += 4) {
+        check(nidzaru_log_open_file(&one, less, 9 - less, path) == 0, "a log in a file");
+        nidzaru_log_close(&one);
+        check(nidzaru_log_open_left(&one, path) == 0 && one.state->who == less, "a log in a file that was longer");
+        nidzaru_log_close(&one);
+    }
+}
+
 /* The descriptor that the next file gets. */
 static int next_file(void) {
     int file = open("/dev/null", O_RDONLY);
@@ -518,6 +579,13 @@ static void check_files(const char *path) {
     check_spoilt("an operation of no kind", path, state, 0);
     check_spoilt("an operation of an unknown kind", path, state + operation, 4);
     check_spoilt("an operation that ends before it begins", path, state + operation + 15, 255);
+    check_kept("a file without space", path, SPACE, 9);
+    check_kept("a file that has no place in memory", path, PLACE, 9);
+    check_kept("a file that has no place in memory and was longer", path, PLACE, 2);
+    check_kept("a file that can't be made shorter", path, LENGTH, 2);
+    check_kept("a file of a negative length", path, NO_REFUSAL, (SIZE_MAX - state) / operation);
+    check_kept("a file of a length that overflows", path, NO_REFUSAL, SIZE_MAX / 2);
+    check_shorter(path);
     remove(path);
     check(nidzaru_log_open_left(&one, path) == NIDZARU_LOG_NO_FILE, "no file");
     check(nidzaru_log_open_file(&one, 3, 9, "/dev/null/none") == NIDZARU_LOG_NO_FILE, "a file that can't be");
