@@ -34,11 +34,12 @@
  *   nidzaru_log_finish(stdout, logs, 2);                     when the threads are joined, or stand still for good
  *
  * The floor is the least begin of what is under way. A thread that is between two calls holds it at its last end, until it says
- * nidzaru_log_pause(&log); one that hasn't begun, has left or whose log is full doesn't hold it. A call that hangs holds it at its begin:
- * `fsr watch` then tells nothing that came later, and its time grows with the square of what comes. nidzaru_log_holder says whose log that
- * is, and the line of the floor has its `who`. nidzaru_log_give_up gives a thread up that never comes back: its write is written without an
- * end. If a log has a fault, such as an operation without room, the last line is of kind `fault`, which every judge refuses. What is cut
- * off before its line `done`, as by a kill, may lack the write of a read: don't trust what is said of its end.
+ * nidzaru_log_pause(&log); one that hasn't begun, has left or whose log is full doesn't hold it. A call that hangs holds it at its begin,
+ * as does a write that an exception ended, although its thread leaves: `fsr watch` then tells nothing that came later, and its time grows
+ * with the square of what comes. nidzaru_log_holder says whose log that is, and the line of the floor has its `who`. nidzaru_log_give_up
+ * gives a thread up that never comes back: its write is written without an end, and nobody waits for it. If a log has a fault, such as an
+ * operation without room, the last line is of kind `fault`, which every judge refuses. What is cut off before its line `done`, as by a
+ * kill, may lack the write of a read: don't trust what is said of its end.
  *
  * A record is [number, hash]. The number stands in the data; no two writes have the same, and none has the opening's. The hash is of
  * all bytes, so data of two writes that were mixed show as a record that nobody wrote (unless two hashes are equal by chance). Bytes
@@ -146,7 +147,7 @@ enum {
     NIDZARU_LOG_NO_LIMIT = 4,  /* a write was refused, and no limit was told */
     NIDZARU_LOG_STREAM = 5,    /* the stream took not all of it */
     NIDZARU_LOG_NO_FILE = 6,   /* a log's file can't be made, or isn't one */
-    NIDZARU_LOG_CAME_BACK = 7  /* a thread that was given up began another operation */
+    NIDZARU_LOG_CAME_BACK = 7  /* a thread that was given up began another operation, or a write that no drain had seen */
 };
 
 enum { NIDZARU_LOG_NOTHING, NIDZARU_LOG_WRITE, NIDZARU_LOG_READ, NIDZARU_LOG_REFUSED };
@@ -185,9 +186,10 @@ typedef struct nidzaru_log {
     uint64_t reach, ahead; /* the turn before which nobody has to be looked for, and how many it may be ahead */
     struct nidzaru_log *const *beside;
     size_t beside_count;
-    uint64_t counted, written, floor;         /* the drains' own: operations that had ended, lines, and below what nothing more begins */
-    uint64_t given_up, last_begin, under_way; /* whether the thread was given up, its last begin, and whether a write is under way */
-    char apart[64];                           /* logs that lie side by side share no cache line that their threads store to */
+    uint64_t counted, written, floor; /* the drains' own: operations that had ended, lines, and below what nothing more begins */
+    uint64_t given_up;                /* 1 if the thread was given up, 2 behind the next drain, 3 if that wrote its write without an end */
+    uint64_t last_begin, under_way;   /* what it had begun last then, and whether a write is under way */
+    char apart[64];                   /* logs that lie side by side share no cache line that their threads store to */
 } nidzaru_log;
 
 #define NIDZARU_LOG_MAGIC "nidzaru\2"
@@ -213,6 +215,7 @@ NIDZARU_LOG_INLINE void nidzaru_log_begin_block(nidzaru_log *log, void *block, s
     log->state->room = room;
     log->state->words = NIDZARU_LOG_WORDS;
     log->state->idle = 1;
+    log->state->turn = room ? 0 : NIDZARU_LOG_LEFT;
     memcpy(log->state->magic, NIDZARU_LOG_MAGIC, sizeof log->state->magic);
 }
 
@@ -415,8 +418,10 @@ NIDZARU_LOG_INLINE void nidzaru_log_set_turn(nidzaru_log *log, uint64_t turn) {
     __atomic_store_n(&log->state->turn, turn, __ATOMIC_RELAXED);
 }
 
-/* The thread, which is between two operations, may begin none for long. Until it does it doesn't hold the floor. */
+/* The thread, which is between two operations, may begin none for long. Until it does it doesn't hold the floor, unless a write is still
+ * under way, as an exception ended its call. */
 NIDZARU_LOG_INLINE void nidzaru_log_pause(nidzaru_log *log) {
+    if (log->state->under_way.kind == NIDZARU_LOG_WRITE) return;
     __atomic_store_n(&log->state->idle, NIDZARU_LOG_CAST(uint64_t, 1), __ATOMIC_RELEASE);
 }
 
@@ -433,12 +438,12 @@ NIDZARU_LOG_INLINE void nidzaru_log_leave(nidzaru_log *log) {
     nidzaru_log_pause(log);
 }
 
-/* The least turn of all logs. */
+/* The least turn of this log and of all that aren't given up. */
 NIDZARU_LOG_INLINE uint64_t nidzaru_log_slowest(const nidzaru_log *log) {
-    uint64_t slowest = NIDZARU_LOG_LEFT;
+    uint64_t slowest = log->state->turn;
     for (size_t at = 0; at < log->beside_count; at++) {
         uint64_t turn = __atomic_load_n(&log->beside[at]->state->turn, __ATOMIC_RELAXED);
-        if (turn < slowest) slowest = turn;
+        if (turn < slowest && !__atomic_load_n(&log->beside[at]->given_up, __ATOMIC_RELAXED)) slowest = turn;
     }
     return slowest;
 }
@@ -569,11 +574,13 @@ NIDZARU_LOG_INLINE void nidzaru_log_put_record(FILE *to, const char *key, const 
 #endif
 }
 
-/* Writes the line of an operation of a log. */
+/* Writes the line of an operation of a log. What is under way is a write; its kind isn't looked at again, as it may end meanwhile. */
 NIDZARU_LOG_INLINE void nidzaru_log_put(FILE *to, const nidzaru_log *log, const nidzaru_log_operation *it, uint64_t zero) {
     static const char *const kinds[] = {"", "write", "read", "refused"};
-    fprintf(to, "{\"who\":%" PRIu64 ",\"kind\":\"%s\",\"begin\":%" PRIu64 ",\"end\":", log->state->who, kinds[it->kind], it->begin - zero);
-    if (it == &log->state->under_way) {
+    int is_under_way = it == &log->state->under_way;
+    const char *kind = is_under_way ? "write" : kinds[it->kind];
+    fprintf(to, "{\"who\":%" PRIu64 ",\"kind\":\"%s\",\"begin\":%" PRIu64 ",\"end\":", log->state->who, kind, it->begin - zero);
+    if (is_under_way) {
         fputs("null", to);
     } else {
         fprintf(to, "%" PRIu64, it->end - zero);
@@ -636,11 +643,16 @@ NIDZARU_LOG_CHECKED int nidzaru_log_merge(FILE *to, nidzaru_log *const *logs, si
     return fflush(to) || ferror(to) ? NIDZARU_LOG_STREAM : 0;
 }
 
-/* A thread that never comes back, as its call hangs or it was cancelled, holds the floor no more; the thread that drains says so. The next
- * drain writes its write without an end. If it begins another operation the drains have a fault. */
+/* Paced threads look at this. */
+NIDZARU_LOG_INLINE void nidzaru_log_set_given_up(nidzaru_log *log, uint64_t given_up) {
+    __atomic_store_n(&log->given_up, given_up, __ATOMIC_RELAXED);
+}
+
+/* A thread that never comes back, as its call hangs or it was cancelled, holds the floor no more, and nobody waits for it; the thread that
+ * drains says so. The next drain writes its write without an end. If it begins another operation the drains have a fault. */
 NIDZARU_LOG_INLINE void nidzaru_log_give_up(nidzaru_log *log) {
     if (log->given_up) return;
-    log->given_up = 1;
+    nidzaru_log_set_given_up(log, 1);
     log->last_begin = __atomic_load_n(&log->state->under_way.begin, __ATOMIC_ACQUIRE);
 }
 
@@ -660,15 +672,19 @@ NIDZARU_LOG_INLINE void nidzaru_log_look(nidzaru_log *log, uint64_t now) {
     uint64_t floor = __atomic_load_n(&log->state->under_way.begin, __ATOMIC_ACQUIRE);
     int writes = __atomic_load_n(&log->state->under_way.kind, __ATOMIC_ACQUIRE) == NIDZARU_LOG_WRITE;
     log->counted = __atomic_load_n(&log->state->count, __ATOMIC_ACQUIRE);
-    log->under_way = writes && log->given_up == 1 && log->state->place == log->counted;
+    log->under_way = writes && log->given_up && log->given_up < 3 && log->state->place == log->counted;
     if (log->counted && floor <= log->operations[log->counted - 1].end) floor = log->operations[log->counted - 1].end + 1;
     if (idle || log->given_up) floor = now;
     if (floor > log->floor) log->floor = floor;
 }
 
-/* Whether a thread that was given up began another operation. */
+/* Whether a thread that was given up began another operation, or a write whose kind the drain behind that didn't see, as the thread stood
+ * between the two stores of its begin. */
 NIDZARU_LOG_INLINE int nidzaru_log_came_back(const nidzaru_log *log) {
-    return log->given_up && __atomic_load_n(&log->state->under_way.begin, __ATOMIC_ACQUIRE) != log->last_begin;
+    if (!log->given_up) return 0;
+    if (__atomic_load_n(&log->state->under_way.begin, __ATOMIC_ACQUIRE) != log->last_begin) return 1;
+    if (log->given_up != 2) return 0;
+    return log->under_way || (log->merged < log->counted && log->operations[log->merged].kind != NIDZARU_LOG_READ);
 }
 
 /* Looks at all threads. Answers why nothing more can be written, or 0. A fault stands behind no floor that was seen. */
@@ -707,6 +723,7 @@ NIDZARU_LOG_INLINE void nidzaru_log_put_drained(FILE *to, nidzaru_log *log) {
         log->merged++;
     } else {
         log->under_way = 0;
+        nidzaru_log_set_given_up(log, 3);
     }
 }
 
@@ -728,7 +745,9 @@ NIDZARU_LOG_INLINE void nidzaru_log_put_counted(FILE *to, nidzaru_log *const *lo
         nidzaru_log_put_drained(to, first);
     }
     nidzaru_log_put_floor(to, floor, holder->floor, holder);
-    for (size_t at = 0; at < count; at++) logs[at]->given_up += logs[at]->given_up == 1;
+    for (size_t at = 0; at < count; at++) {
+        if (logs[at]->given_up == 1) nidzaru_log_set_given_up(logs[at], 2);
+    }
 }
 
 /* Writes what all threads have ended since the last drain, and floors; times are the clock's own. One thread at a time drains, while others

@@ -368,6 +368,16 @@ static void check_idle(void) {
     check(put(FINISH, 0) == 0 && strstr(text, "{\"kind\":\"done\",\"ops\":2}\n"), "the number of lines of threads that left");
     close_both();
     begin_both();
+    nidzaru_log_begin_read(&one);
+    nidzaru_log_begin_write(&two, second[0], second, sizeof second);
+    set_begin(&one, 110);
+    set_begin(&two, 120);
+    nidzaru_log_leave(&one);
+    nidzaru_log_leave(&two);
+    check_drain("a thread that left in a write, and one that left in a read",
+                READ(5, TIMES(100, 103), 0) WROTE(3, TIMES(102, 109), 1) FLOOR(120, 5));
+    close_both();
+    begin_both();
     nidzaru_log_begin_write(&one, second[0], second, sizeof second);
     set_begin(&one, 120);
     check(put(FINISH, 0) == 0 && strstr(text, WROTE(3, TIMES(120, null), 2)) && strstr(text, "{\"kind\":\"done\",\"ops\":3}\n"),

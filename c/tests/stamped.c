@@ -308,6 +308,22 @@ static void check_pace(void) {
     nidzaru_log_end_write(&other);
     check_waits("nobody waits for a thread whose log is full", "00000000");
     close_both();
+    open_both(20, 0, 2);
+    check_waits("nobody waits for a thread whose log has no room", "00000000");
+    close_both();
+    open_both(20, 20, 2);
+    nidzaru_log_begin_read(&other);
+    nidzaru_log_give_up(&other);
+    check_waits("nobody waits for a thread that was given up", "00000000");
+    nidzaru_log_end_read(&other, 1, item, 8);
+    check_waits("nor when it ends after all", "00000000");
+    close_both();
+    open_both(20, 20, 4);
+    nidzaru_log_give_up(&log_of_one);
+    check_waits("a thread that was given up waits", "00003003");
+    nidzaru_log_give_up(&other);
+    check_waits("until all are", "00000000");
+    close_both();
 }
 
 int main(void) {
