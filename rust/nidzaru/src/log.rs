@@ -261,7 +261,7 @@ pub enum MergeError {
         /// The thread's number.
         who: u64,
     },
-    /// This thread was given up, and began another operation.
+    /// This thread was given up, and began another operation, or a write that no drain had seen.
     CameBack {
         /// The thread's number.
         who: u64,
@@ -682,9 +682,10 @@ struct Seen {
     written: u64,
     /// Below this moment nothing begins that isn't counted.
     floor: u64,
-    /// What the thread had begun last when it was given up, and whether its write is still to be written.
+    /// What the thread had begun last when it was given up, whether no drain came since, and whether its write is written without an end.
     given_up: Option<u64>,
     is_new: bool,
+    is_open: bool,
     under_way: bool,
 }
 
@@ -696,7 +697,7 @@ impl Seen {
         let begin = feed.begin.load(Acquire);
         let writing = feed.writing.load(Acquire);
         self.counted = feed.count.load(Acquire);
-        self.under_way = self.is_new && writing == self.counted + 1;
+        self.under_way = self.given_up.is_some() && !self.is_open && writing == self.counted + 1;
         let behind = self.counted.checked_sub(1).map_or(0, |last| feed.slots[last as usize].load().end + 1);
         let floor = if idle || self.given_up.is_some() { now } else { begin.max(behind) };
         self.floor = self.floor.max(floor);
@@ -721,13 +722,21 @@ impl Seen {
         if self.merged < self.counted {
             self.merged += 1;
         } else {
-            self.under_way = false;
+            (self.under_way, self.is_open) = (false, true);
         }
+    }
+
+    /// Whether a thread that was given up began another operation, or a write that the drain behind that didn't see, as the thread stood
+    /// between the two stores of its begin.
+    fn came_back(&self, feed: &Feed) -> bool {
+        let Some(last) = self.given_up else { return false };
+        let wrote = || self.merged < self.counted && feed.slots[self.merged as usize].load().kind != Kind::Read;
+        last != feed.begin.load(Acquire) || (!self.is_new && !self.is_open && (self.under_way || wrote()))
     }
 
     fn fault(&self, feed: &Feed) -> Option<MergeError> {
         let (who, lost) = (feed.who, feed.lost.load(Acquire));
-        if self.given_up.is_some_and(|last| last != feed.begin.load(Acquire)) {
+        if self.came_back(feed) {
             return Some(MergeError::CameBack { who });
         } else if feed.unpaired.load(Relaxed) {
             return Some(MergeError::Unpaired { who });
@@ -1339,6 +1348,32 @@ mod tests {
         let mut text = Vec::new();
         assert_eq!(live.finish(&mut text).unwrap(), 3);
         assert!(String::from_utf8(text).unwrap().contains(&row(3, "write", 120, "null", 2)));
+    }
+
+    /// It stood between the two stores of its begin. Its write isn't lost: it hangs or ends, and the thread is said to have come back. A read
+    /// is left out.
+    #[test]
+    fn a_thread_that_is_given_up_as_it_begins() {
+        for ends in [true, false] {
+            let ([mut one, _two], mut live) = fed();
+            let begin = one.begin();
+            live.give_up(3);
+            assert_eq!(drained(&mut live), first_rows() + &floor(104, 5));
+            one.feed.as_ref().unwrap().begin_write(begin, SECOND);
+            if ends {
+                one.put(Operation { kind: Kind::Write, begin, end: begin + 1, record: SECOND });
+            }
+            let mut text = Vec::new();
+            assert!(matches!(live.drain(&mut text), Err(MergeError::CameBack { who: 3 })));
+            assert!(matches!(live.finish(&mut text), Err(MergeError::CameBack { who: 3 })));
+            assert_eq!(String::from_utf8(text).unwrap(), "{\"kind\":\"fault\"}\n".repeat(2));
+        }
+        let ([mut one, _two], mut live) = fed();
+        let begin = one.begin();
+        live.give_up(3);
+        drained(&mut live);
+        one.put(Operation { kind: Kind::Read, begin, end: begin + 1, record: FIRST });
+        assert_eq!(live.finish(&mut Vec::new()).unwrap(), 2);
     }
 
     #[test]
