@@ -39,7 +39,7 @@
 //! begins. `fsr watch` reads that as it comes, and tells at once where it is lost. No thread waits. The floor is the least begin of what is
 //! under way. A thread that is between two calls holds it at its last end, until it [pauses](Log::pause); one that hasn't begun, has left or
 //! whose log is full doesn't hold it. A call that hangs or panics holds it at its begin, until its thread is [given up](Live::give_up);
-//! behind a read that panicked, also until the thread pauses, leaves or begins another.
+//! behind a read that panicked, also until the thread pauses, leaves or begins another. No paced thread waits for one that was given up.
 //!
 //! # Calls that panic
 //!
@@ -350,21 +350,22 @@ pub struct Log {
     under_way: Option<(u64, Record)>,
     /// Whether an operation began behind a write that panicked.
     unpaired: bool,
+    turn: Arc<Turn>,
     pace: Option<Pace>,
     feed: Option<Arc<Feed>>,
 }
 
-/// How many operations of a thread ended, or [`LEFT`]. Threads share no cache line that they store to.
+/// How many operations of a thread ended, or [`LEFT`], and whether it was given up. Threads share no cache line that they store to.
 #[derive(Debug, Default)]
 #[repr(align(128))]
-struct Turn(AtomicU64);
+struct Turn(AtomicU64, AtomicBool);
 
 const LEFT: u64 = u64::MAX;
 
 /// The turns of all threads, and which is this one's.
 #[derive(Clone, Debug)]
 struct Pace {
-    turns: Arc<[Turn]>,
+    turns: Arc<[Arc<Turn>]>,
     me: usize,
     ahead: u64,
     /// The turn before which nobody has to be looked for.
@@ -376,8 +377,10 @@ impl Pace {
         &self.turns[self.me].0
     }
 
-    fn slowest(&self) -> u64 {
-        self.turns.iter().map(|turn| turn.0.load(Relaxed)).min().unwrap_or(LEFT)
+    /// The least turn of this thread, which is told, and of all that aren't given up.
+    fn slowest(&self, turn: u64) -> u64 {
+        let others = self.turns.iter().filter(|it| !it.1.load(Relaxed));
+        others.fold(turn, |least, it| least.min(it.0.load(Relaxed)))
     }
 
     /// Waits for the slowest, and then until it is behind by half as many, so that both run at once for a while.
@@ -393,7 +396,7 @@ impl Pace {
     #[inline(never)]
     fn await_others(&mut self, turn: u64, mut wait: impl FnMut()) {
         loop {
-            self.reach = self.slowest() + self.ahead;
+            self.reach = self.slowest(turn) + self.ahead;
             if self.reach > turn + self.ahead / 2 {
                 return;
             }
@@ -402,7 +405,7 @@ impl Pace {
     }
 }
 
-/// A thread that a call's panic ends holds up nobody.
+/// A thread holds up nobody once its call panicked, or what tells of that.
 struct LeavesByPanic<'a>(Option<&'a Pace>);
 
 impl Drop for LeavesByPanic<'_> {
@@ -417,10 +420,12 @@ impl Drop for LeavesByPanic<'_> {
 }
 
 /// Paces the threads of these logs, none of which has begun: none begins an operation while another one is behind it by so many. A thread whose
-/// log is full, or whose call panics, holds up nobody; one that stops before [leaves](Log::leave). With 0 nobody waits.
+/// log is full, whose call panics, or that was [given up](Live::give_up), holds up nobody; one that stops before [leaves](Log::leave). With 0
+/// nobody waits.
 pub fn pace(logs: &mut [Log], ahead: u64) {
-    let turns: Arc<[Turn]> = logs.iter().map(|_| Turn::default()).collect();
+    let turns: Arc<[Arc<Turn>]> = logs.iter().map(|log| Arc::clone(&log.turn)).collect();
     for (me, log) in logs.iter_mut().enumerate() {
+        log.turn.0.store(if log.is_full() { LEFT } else { 0 }, Relaxed);
         log.pace = (ahead > 0).then(|| Pace { turns: Arc::clone(&turns), me, ahead, reach: ahead });
     }
 }
@@ -433,7 +438,20 @@ impl Log {
         // (every page is there before the threads begin)
         operations.resize(room, Operation { kind: Kind::Read, begin: 1, end: 1, record: Record::default() });
         operations.clear();
-        Ok(Log { who, operations, room, lost: 0, last_end: 0, fenced: true, under_way: None, unpaired: false, pace: None, feed: None })
+        let turn = Arc::default();
+        Ok(Log {
+            who,
+            operations,
+            room,
+            lost: 0,
+            last_end: 0,
+            fenced: true,
+            under_way: None,
+            unpaired: false,
+            turn,
+            pace: None,
+            feed: None,
+        })
     }
 
     /// The same without the fence before the stamp of an end.
@@ -464,29 +482,25 @@ impl Log {
     /// Records a call that writes. A call that never returns, or panics, is written without an end, and nothing may follow it in this log.
     #[inline]
     pub fn write<T>(&mut self, record: Record, call: impl FnOnce() -> T) -> T {
-        let (begin, given, end) = self.run_write(record, call);
-        self.put(Operation { kind: Kind::Write, begin, end, record });
+        let (given, (), done) = self.run_write(record, call, |_| ());
+        self.put(done);
         given
     }
 
     /// Records a call that writes, or refuses to with an error; `saw` is the record that the refused write saw last.
     #[inline]
     pub fn try_write<T, E>(&mut self, record: Record, call: impl FnOnce() -> Result<T, E>, saw: impl FnOnce(&E) -> Record) -> Result<T, E> {
-        let (begin, given, end) = self.run_write(record, call);
-        let (kind, record) = match &given {
-            Ok(_) => (Kind::Write, record),
-            Err(error) => (Kind::Refused, saw(error)),
-        };
-        self.put(Operation { kind, begin, end, record });
+        let (given, saw, done) = self.run_write(record, call, |given| given.as_ref().err().map(saw));
+        self.put(saw.map_or(done, |record| Operation { kind: Kind::Refused, record, ..done }));
         given
     }
 
     /// Records a call that writes, or does nothing, such as a push onto a full queue or a compare-and-set that failed: then it is left out.
     #[inline]
     pub fn write_if<T>(&mut self, record: Record, call: impl FnOnce() -> T, took_effect: impl FnOnce(&T) -> bool) -> T {
-        let (begin, given, end) = self.run_write(record, call);
-        if took_effect(&given) {
-            self.put(Operation { kind: Kind::Write, begin, end, record });
+        let (given, took_effect, done) = self.run_write(record, call, took_effect);
+        if took_effect {
+            self.put(done);
         } else {
             self.rest();
         }
@@ -501,12 +515,14 @@ impl Log {
         let leaves = LeavesByPanic(self.pace.as_ref());
         let given = call();
         let end = clock::end(self.fenced);
+        let record = record(&given);
         drop(leaves);
-        self.put(Operation { kind: Kind::Read, begin, end, record: record(&given) });
+        self.put(Operation { kind: Kind::Read, begin, end, record });
         given
     }
 
-    fn run_write<T>(&mut self, record: Record, call: impl FnOnce() -> T) -> (u64, T, u64) {
+    /// Runs a call that writes, and what tells of it. Answers what they gave, and the write.
+    fn run_write<T, U>(&mut self, record: Record, call: impl FnOnce() -> T, tell: impl FnOnce(&T) -> U) -> (T, U, Operation) {
         let begin = self.begin();
         self.under_way = Some((begin, record));
         if let Some(feed) = &self.feed {
@@ -515,8 +531,9 @@ impl Log {
         let leaves = LeavesByPanic(self.pace.as_ref());
         let given = call();
         let end = clock::end(self.fenced);
+        let told = tell(&given);
         drop(leaves);
-        (begin, given, end)
+        (given, told, Operation { kind: Kind::Write, begin, end, record })
     }
 
     #[inline]
@@ -628,6 +645,7 @@ impl Slot {
 #[repr(align(128))]
 struct Feed {
     who: u64,
+    turn: Arc<Turn>,
     slots: Box<[Slot]>,
     count: AtomicU64,
     begin: AtomicU64,
@@ -644,7 +662,7 @@ struct Feed {
 impl Feed {
     fn new(log: &Log) -> Feed {
         let slots = (0..log.room).map(|_| Slot::default()).collect();
-        Feed { who: log.who, slots, idle: AtomicBool::new(true), ..Feed::default() }
+        Feed { who: log.who, turn: Arc::clone(&log.turn), slots, idle: AtomicBool::new(true), ..Feed::default() }
     }
 
     /// The thread begins again, after this moment. Whoever still sees it idle has looked at the clock before.
@@ -795,8 +813,8 @@ impl Live {
         Some((least.1.who, least.0.floor))
     }
 
-    /// A thread that never comes back holds the floor no more. The next drain writes its write without an end. If it begins another
-    /// operation, drains have a fault.
+    /// A thread that never comes back holds the floor no more, and no paced one waits for it. The next drain writes its write without an end.
+    /// If it begins another operation, drains have a fault.
     pub fn give_up(&mut self, who: u64) {
         if let Some(at) = self.feeds.iter().position(|feed| feed.who == who) {
             self.give_up_at(at);
@@ -807,6 +825,7 @@ impl Live {
         let seen = &mut self.seen[at];
         if seen.given_up.is_none() {
             (seen.given_up, seen.is_new) = (Some(self.feeds[at].begin.load(Acquire)), true);
+            self.feeds[at].turn.1.store(true, Relaxed);
         }
     }
 
@@ -1189,12 +1208,46 @@ mod tests {
         let [mut one, mut two] = paced(20, 1, 2);
         two.write(FIRST, || ());
         assert_eq!(waits(&mut one), [0; 8]);
-        let [mut one, mut two] = paced(20, 20, 2);
-        panics(|| two.write(FIRST, || panic!("planned")));
-        assert_eq!(waits(&mut one), [0; 8]);
-        let [mut one, mut two] = paced(20, 20, 2);
-        panics(|| two.read(|| panic!("planned"), |_: &()| FIRST));
-        assert_eq!(waits(&mut one), [0; 8]);
+        assert_eq!(waits(&mut paced(20, 0, 2)[0]), [0; 8]);
+    }
+
+    #[test]
+    fn nobody_waits_for_a_thread_that_panicked() {
+        let calls: [fn(&mut Log); 5] = [
+            |log| log.write(FIRST, || panic!("planned")),
+            |log| log.write_if(FIRST, || (), |()| panic!("planned")),
+            |log| _ = log.try_write(FIRST, || Err::<(), _>(()), |()| panic!("planned")),
+            |log| log.read(|| panic!("planned"), |_: &()| FIRST),
+            |log| log.read(|| (), |()| panic!("planned")),
+        ];
+        for call in calls {
+            let [mut one, mut two] = paced(20, 20, 2);
+            panics(|| call(&mut two));
+            assert_eq!(waits(&mut one), [0; 8]);
+        }
+    }
+
+    /// Also if it ends after all. One that was given up itself waits until all are.
+    #[test]
+    fn nobody_waits_for_a_thread_that_was_given_up() {
+        for paced_first in [true, false] {
+            let mut logs = [Log::new(0, 30).unwrap(), Log::new(1, 30).unwrap()];
+            if paced_first {
+                pace(&mut logs, 4);
+            }
+            let mut live = live(&mut logs);
+            if !paced_first {
+                pace(&mut logs, 4);
+            }
+            let [one, two] = &mut logs;
+            live.give_up(0);
+            assert_eq!(waits(one), [0, 0, 0, 0, 3, 0, 0, 3]);
+            two.begin();
+            live.give_up(1);
+            assert_eq!(waits(one), [0; 8]);
+            two.put(Operation { kind: Kind::Read, begin: 1, end: 2, record: FIRST });
+            assert_eq!(waits(one), [0; 8]);
+        }
     }
 
     #[test]
