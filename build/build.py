@@ -419,6 +419,11 @@ class Builder:
             work.close(False)
 
 
+def oldest_below(crate):
+    """When the first of the libraries below it was built by the gate: what was edited since then isn't in them."""
+    return min([time.time(), *(os.path.getmtime(f"{it.folder}/out/rlib/{it.name}.rlib") for it in crate.below)])
+
+
 def build_over_gate(crate):
     """Proves and builds a library for C; the status is the command's. (`rt lib` would prove those below it anew: the gate keeps their
     statements, without the stamp by which `rt lib` knows what it built itself.) The build for the first machine takes nothing from an
@@ -429,12 +434,15 @@ def build_over_gate(crate):
         shutil.rmtree(crate.proofs, ignore_errors=True)
         if os.path.exists(f"{crate.stated}/proofs_of"):
             os.remove(f"{crate.stated}/proofs_of")
+    began = oldest_below(crate)
     command = crate.commands(Kit(), 1, "rlib", crate.made)[0]
     done = subprocess.run(command, cwd=crate.folder, stdin=subprocess.DEVNULL, stdout=subprocess.PIPE, stderr=subprocess.STDOUT, check=False)
     told = done.stdout.decode("utf-8", "replace")
     sys.stderr.write(told)
     if done.returncode == 0:
         crate.keep_verdict(told)
+        if crate.is_static:
+            os.utime(crate.made, (began, began))
     return done.returncode
 
 

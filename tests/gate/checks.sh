@@ -92,6 +92,24 @@ else
     fail "planted: the failures of the gate and of the wrong bodies are counted" "$told"
 fi
 
+# What the gate built is no newer than the gate's beginning.
+told=$(
+    room=$room/edited
+    mkdir -p "$room/tree/crates/x/src" && cd "$room/tree" && echo 'x:' >crates.txt && echo old >crates/x/src/main.rt || exit
+    rt() {
+        echo new >"$room/tree/crates/x/src/main.rt"
+        mkdir crates/x/out && cp crates/x/src/main.rt crates/x/out/x
+    }
+    run_gate
+    cat crates/x/out/x
+    [ crates/x/out/x -nt crates/x/src/main.rt ] || echo stale
+)
+if [ "$told" = "$(printf 'old\nstale')" ]; then
+    pass "planted: an edit during the gate is seen"
+else
+    fail "planted: an edit during the gate is seen" "$told"
+fi
+
 # Another script's sums are taken over, its failures too, and a script without sums is a failure; with each its checks are noted.
 told=$(
     room=$room/sums passed=1 failed=1

@@ -87,7 +87,7 @@ fill_clean_path() {
 # The objects of the programs, which the gate doesn't leave where it takes over what an earlier run proved.
 make_objects() {
     for program in fsr picture; do
-        [ -e "$(object_of "$program")" ] || python3 build/build.py --over-gate "$program" </dev/null || return 1
+        is_newer_than_sources "$(object_of "$program")" "$program" || python3 build/build.py --over-gate "$program" </dev/null || return 1
     done
 }
 
@@ -95,7 +95,9 @@ make_objects() {
 copy_tree() {
     make_objects && mkdir "$packages/one" && tar -c --exclude=./.git --exclude=./out --exclude='./crates/*/out' . | tar -x -C "$packages/one" \
         && git -C "$packages/one" init -q && git -C "$packages/one" add -A \
-        && git -C "$packages/one" -c user.name=test -c user.email=test@nidzaru.example commit -q -m 'the tree' && put_built "$packages/one"
+        && git -C "$packages/one" -c user.name=test -c user.email=test@nidzaru.example commit -q -m 'the tree' && put_built "$packages/one" || return 1
+    # (files that git ignores go into no package)
+    : >"$packages/one/rust/nidzaru/src/.lib.rs.swp" && : >"$packages/one/examples/left.so"
 }
 
 # What is built of the tree, for a copy of it: so nothing is built there. A program that isn't built for ARM has a stand-in.
@@ -165,6 +167,14 @@ with_new_file() {
     return $said
 }
 
+# Packs a clone in which something is committed meanwhile.
+with_commit_meanwhile() {
+    clone_tree three && mkdir "$packages/meanwhile" || return 1
+    printf '#!/bin/sh\ngit -C "%s" -c user.name=test -c user.email=test@nidzaru.example commit -q --allow-empty -m more && exec "%s" "$@"\n' \
+        "$packages/three" "$(command -v dpkg-deb)" >"$packages/meanwhile/dpkg-deb" && chmod +x "$packages/meanwhile/dpkg-deb" || return 1
+    PATH=$packages/meanwhile:$PATH "$packages/three/package" $made_words
+}
+
 with_another_logic() {
     library=$packages/one/crates/c_exports/out/libc_exports.a
     cp "$library" "$packages/kept.a" && objcopy --remove-section=.comment "$library" && "$packages/one/package" $made_words
@@ -228,6 +238,7 @@ check_packages() {
     is_refused "./package with a new file" "aren't committed: .*more.txt" with_new_file
     is_refused "./package over a library of another logic" "proved by logic ''" with_another_logic
     is_refused "./package over a library that isn't proved" 'no verdict' with_verdict 's/=proved/=not-proved/'
+    is_refused "./package with a commit of meanwhile" 'the tree was changed meanwhile' with_commit_meanwhile
     [ -z "$has_arm" ] || is_refused "./package over proofs of another number" 'the verdict for aarch64 is of' with_verdict 's/ axioms=3 / axioms=4 /'
     check "./package" env GATE_LOG="$packages/log" "$packages/one/package" $made_words
     sum=$(sha256sum <"$packages/log")

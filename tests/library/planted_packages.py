@@ -33,6 +33,9 @@ ROUNDS = [
          'if last != [f"{sum(counted.values()) + 1} passed, 0 failed"] and last != ["0 passed, 0 failed"]:', "./package with the log of a gate of 0 passed"),
         ("a commit by its beginning", CHECKS, "if [it for it, _ in whole] != [commit]:",
          "if [commit.startswith(it) for it, _ in whole] != [True]:", "./package with the log of the beginning of a commit"),
+        ("files that git ignores", PACKAGE, 'git -C "$top" archive HEAD:rust/nidzaru Cargo.toml src examples | tar -x -C "$room/$name"',
+         'cp -r "$top/rust/nidzaru/Cargo.toml" "$top/rust/nidzaru/src" "$top/rust/nidzaru/examples" "$room/$name/"', "the same bytes from both"),
+        ("a commit of meanwhile", PACKAGE, '|| fail "the tree was changed meanwhile"', "|| :", "./package with a commit of meanwhile"),
         ("new files", PACKAGE, 'status --porcelain) || fail', 'status --porcelain -uno) || fail', "./package with a new file"),
         ("any logic", PACKAGE, '*) fail "the library for $machine says that', '*) : "the library for $machine says that',
          "./package over a library of another logic"),
@@ -76,7 +79,7 @@ ROUNDS = [
     ],
     [
         ("a build that names nothing trusted", PROVED, "Trusted The kit", "The kit", "BUILD-INFO tells"),
-        ("a crate without its build", PACKAGE, '"$top/packaging/build.rs" \\ "$top/LICENSE-MIT" "$top/LICENSE-APACHE" "$packed/BUILD-INFO"',
+        ("a crate without its build", PACKAGE, '"$top/packaging/build.rs" "$top/LICENSE-MIT" "$top/LICENSE-APACHE" "$packed/BUILD-INFO"',
          '"$top/packaging/build.rs" "$top/LICENSE-MIT" "$top/LICENSE-APACHE"', "the files of each package"),
         ("a size in bytes", PACKAGE, "{ sum += int(($1 + 1023) / 1024) } END", "{ sum += $1 } END", "the Debian package's parts, version and size"),
         ("a crate that is never watched", BUILD, 'println!("cargo:rustc-cfg=nidzaru_watched");', "", "the packaged crate links its own libraries"),
