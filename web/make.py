@@ -30,6 +30,7 @@ IN_STEPPER = re.compile(r'(<script type="text/plain" id="module">\n)(.*?)(</scri
 # What the page says of its modules: of which files each crate's were built, the modules themselves, and the prover's line.
 IN_PAGE = re.compile(r'<meta name="built-of" data-crate="(\w+)" content="(\w+)">')
 MODULE = '<script type="text/plain" id="{}" data-sum="(\\w+)">(.*?)</script>'
+END = "</html>\n"
 VERDICT = re.compile(r"The prover's line: <code>(.*?)</code>")
 # What is kept of a build, by the crate.
 KEPT = {CRATE: ("wide.wasm", "narrow.wasm", "refuses.wasm", "shallow.wasm", "stack_128.wasm", "verdict"), CELL: ("cell.wasm",)}
@@ -66,9 +67,11 @@ def packed(wasm):
 
 def unpacked(text, name):
     """The module of this name in the text of a page."""
-    wanted, letters = re.search(MODULE.format(name), text).groups()
-    wasm = gzip.decompress(base64.b64decode(letters))
-    if hashlib.sha256(wasm).hexdigest() != wanted:
+    found = re.search(MODULE.format(name), text)
+    if found is None or not text.endswith(END):
+        raise Refused(f"{PAGE} is damaged: it isn't whole, and ./page --anew makes another one")
+    wasm = gzip.decompress(base64.b64decode(found[2]))
+    if hashlib.sha256(wasm).hexdigest() != found[1]:
         raise Refused(f"{PAGE} is damaged: its module isn't the one of its sum")
     return wasm
 
@@ -78,8 +81,8 @@ def stepper(cell):
     text, letters = read(STEPPER), base64.b64encode(cell).decode()
     lines = "".join(f"{letters[at : at + 120]}\n" for at in range(0, len(letters), 120))
     text, count = IN_STEPPER.subn(lambda it: it[1] + lines + it[3], text)
-    if count != 1:
-        raise Refused("docs/stepper.html has no place for its module")
+    if count != 1 or not text.endswith(END):
+        raise Refused("docs/stepper.html has no place for its module, or no end")
     return text
 
 
@@ -126,8 +129,8 @@ def read_page(crate):
         return None
     if crate == CELL:
         # (the sum is of the module in the page, which has the stepper's page as JSON: the other file may have an older one)
-        letters = IN_STEPPER.search(read(STEPPER))[2]
-        return {"cell.wasm": base64.b64decode(letters)} if json.dumps(letters)[1:-1] in text else None
+        letters = IN_STEPPER.search(read(STEPPER))
+        return {"cell.wasm": base64.b64decode(letters[2])} if letters and json.dumps(letters[2])[1:-1] in text else None
     return {"wide.wasm": unpacked(text, "wide"), "narrow.wasm": unpacked(text, "narrow"), "verdict": VERDICT.search(text)[1].encode()}
 
 
@@ -172,11 +175,18 @@ def build(crate, asked):
             if subprocess.run([sys.executable, f"{TOP}/build/build.py", *below], check=False).returncode:
                 raise Refused("the libraries below aren't built")
         found = built(kit, crate, asked.over or "stated")
-        os.makedirs(kept, exist_ok=True)
-        for name, what in {**found, f"{crate}.sum": wanted.encode()}.items():
-            with open(f"{kept}/{name}", "wb") as file:
-                file.write(what)
+        keep(kept, crate, found, wanted)
     return found
+
+
+def keep(kept, crate, found, wanted):
+    """Keeps what was built of this crate; the sum, by which it is taken, stands there only while the rest does."""
+    os.makedirs(kept, exist_ok=True)
+    if os.path.exists(f"{kept}/{crate}.sum"):
+        os.remove(f"{kept}/{crate}.sum")
+    for name, what in {**found, f"{crate}.sum": wanted.encode()}.items():
+        with open(f"{kept}/{name}", "wb") as file:
+            file.write(what)
 
 
 def modules(crates, asked):
@@ -191,9 +201,14 @@ def modules(crates, asked):
 
 
 def write(path, text):
-    os.makedirs(os.path.dirname(os.path.abspath(path)), exist_ok=True)
-    with open(path, "w", encoding="utf-8") as file:
+    """Writes a file whole, or leaves the one that is there; what is no file (a pipe) is written as it is."""
+    path = os.path.realpath(path)
+    os.makedirs(os.path.dirname(path), exist_ok=True)
+    half = f"{path}.new" if os.path.isfile(path) or not os.path.exists(path) else path
+    with open(half, "w", encoding="utf-8") as file:
         file.write(text)
+    if half != path:
+        os.replace(half, path)
 
 
 def main():

@@ -243,7 +243,9 @@ function answer(data) {
   const spent = [timeOf(data.took), `${sizeOf(data.memory)} of memory`, `document of ${sizeOf(data.length)}`];
   const register = data.status === 1 ? key.slice(0, 100) : "";
   const facts = [`${data.command}, status ${data.status}`, register, counts, ...spent].filter(it => it).join(" \u00b7 ");
-  const title = data.status <= 1 ? WORDS[data.command][data.status] : ENDS[data.status] || `Status ${data.status}`;
+  // (only a log in lines has a small log)
+  const asked = data.command === "order --small" && data.kind !== "lines" ? "order" : data.command;
+  const title = data.status <= 1 ? WORDS[asked][data.status] : ENDS[data.status] || `Status ${data.status}`;
   const sentence = linked(sentenceOf(data, text, lines));
   if (data.status === 3 && (data.kind === "lines" || !isKind(data.kind))) sentence.push(" ", leadsToForm());
   tell(["good", "bad"][data.status] || "odd", title, sentence, facts);
@@ -312,7 +314,9 @@ function zoom(by) {
 function meant(region, number) {
   if (region.startsWith("entry")) return ["entry", number];
   if (state.kind === "lines") return ["line", number];
-  return ["operation", region.startsWith("line") ? state.named.indexOf(number) : number];
+  if (!region.startsWith("line")) return ["operation", number];
+  // (beyond these numbers two lines may be one)
+  return ["operation", Number.isSafeInteger(number) ? state.named.indexOf(number) : -1];
 }
 
 // A text whose numbers of lines and operations lead to the document.

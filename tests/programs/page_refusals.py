@@ -1,11 +1,14 @@
-"""What web/module.py refuses: each fault of an LLVM module or of a linked one that it should see is planted in a plain one."""
+"""What the page's build refuses: each fault of an LLVM module or of a linked one that web/module.py should see is planted in a plain one, and
+pages that are cut and files that are half written stand where web/make.py takes what was built before."""
 
 import os
 import sys
+import tempfile
 
 TOP = os.path.dirname(os.path.dirname(os.path.dirname(os.path.realpath(__file__))))
 sys.path.insert(0, f"{TOP}/web")
 
+import make  # noqa: E402
 import module  # noqa: E402
 
 PLAIN = """target datalayout = "e-m:e-p270:32:32-i64:64"
@@ -36,8 +39,45 @@ def exports(names):
     return section(module.EXPORTED, bytes([len(names)]) + entries)
 
 
+def is_refused(said, call, *words):
+    try:
+        call(*words)
+    except module.Refused as fault:
+        return said in str(fault)
+    return False
+
+
+def faults_of_halves(folder):
+    """What is taken of a page, of kept modules, or of a file that was to be written, whose writing was cut off."""
+    whole, stepper, kept = make.read(make.PAGE), make.read(make.STEPPER), f"{folder}/kept"
+    for title, text in (("a page cut within a module", whole[:300000]), ("a page without its end", whole[:-9])):
+        if not is_refused("is damaged", make.unpacked, text, "wide"):
+            yield f"{title} isn't seen"
+    make.STEPPER = f"{folder}/stepper.html"
+    make.write(make.STEPPER, stepper)
+    make.write(make.STEPPER, stepper[:-9])
+    if not is_refused("no end", make.stepper, b""):
+        yield "a stepper's page without its end isn't seen"
+    modules = {name: b"first" for name in make.KEPT[make.CRATE]}
+    make.keep(kept, make.CRATE, modules, "sum")
+    if make.read_kept(kept, make.CRATE, "sum") != modules:
+        yield "modules that were kept aren't found"
+    for call, words in ((make.keep, (kept, make.CRATE, {"wide.wasm": b"second", "narrow.wasm": None}, "other")),
+                        (make.write, (make.STEPPER, "half\ud800"))):
+        try:
+            call(*words)
+            yield f"{call.__name__} isn't cut off"
+        except (TypeError, UnicodeEncodeError):
+            pass
+    if make.read_kept(kept, make.CRATE, "sum") is not None:
+        yield "modules that are half kept are taken"
+    if make.read(make.STEPPER) != stepper[:-9]:
+        yield "a file that is half written isn't the one of before"
+
+
 def main():
-    faults = []
+    with tempfile.TemporaryDirectory() as folder:
+        faults = list(faults_of_halves(folder))
     if module.fault_in_text(PLAIN):
         faults.append(f"the plain module is refused: {module.fault_in_text(PLAIN)}")
     for title, (text, said) in IN_TEXT.items():
@@ -62,7 +102,7 @@ def main():
         faults.append("a table in use isn't seen")
     except module.Refused:
         pass
-    print("\n".join(faults or [f"{len(IN_TEXT) + len(in_module) + 1} planted faults are seen"]))
+    print("\n".join(faults or [f"{len(IN_TEXT) + len(in_module) + 6} planted faults are seen"]))
     return 1 if faults else 0
 
 

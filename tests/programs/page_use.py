@@ -291,6 +291,14 @@ class Use:
                 self.js(f"([...document.querySelectorAll('#{part} .to')].find(it => it.textContent === '{number}').click(), 0)")
                 wanted = json.dumps(ops[place], separators=(",", ":"))
                 self.need(self.waits(f"({SELECTED}) === {json.dumps(wanted)}"), f"in the {part} line {number} leads to {self.selected()}")
+        # (two lines that are one number of the browser's lead nowhere)
+        far = CROSSED.replace('"ops"', '"lines":[1,9007199254740993,3,4,9007199254740992,6],"ops"')
+        self.after(f"(put({json.dumps(far)}, ''), ask())")
+        links = self.js("[...document.querySelectorAll('#sentence .to')].map(it => it.textContent).join()")
+        self.need(links == "1,3,6", f"of lines beyond 2^53 there are links {links}: {self.shown()[1]}")
+        self.after(f"(put({json.dumps(CROSSED)}, ''), $('command').value = 'order --small', ask())")
+        self.need(self.shown()[0] == "Not atomic: no order is lawful", f"of a document without lines: {self.shown()[0]}")
+        self.js("($('command').value = '', 0)")
 
     def times(self):
         """Of a log in lines the picture has the ranks of its times, so that it isn't as wide as they are far apart."""
