@@ -28,7 +28,11 @@ for command in "$@"; do
     "$room/clone/fsr" "$command" "$room/clone/examples/$document" >"$room/answer" 2>"$room/built"
     status=$?
     took=$(($(date +%s) - began))
-    [ "$status" -le 1 ] && cmp -s "$room/answer" "$top/examples/${document%.json*}.txt" || exit 1
+    if [ "$status" -gt 1 ] || ! cmp "$room/answer" "$top/examples/${document%.json*}.txt" >&2; then
+        tail -n 5 "$room/built" >&2
+        echo "first_result: ./fsr $command ends with status $status, or with another answer" >&2
+        exit 1
+    fi
     count_spent "$room/times"
     tell_cost "./fsr $command" "$took" "$(echo "$used $before" | awk '{ print $1 - $2 }')" "$row"
     before=$used

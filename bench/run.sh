@@ -16,7 +16,13 @@ rustc -O -C target-cpu=x86-64-v2 -C panic=abort -o "$room/plain" "$top/bench/pla
 make_fresh cells_bench </dev/null >&2 || exit 1
 for round in $(seq "$rounds"); do
     for program in "$proved" "$room/plain"; do
-        "$program" run | grep -v '^#' >>"$room/lines"
+        "$program" run >"$room/run" || { echo "bench: $program run: status $?" >&2; exit 1; }
+        # (a figure of torn records is none)
+        if ! awk -F, '!/^#/ && $4 == "torn_or_backward" && $5 != 0 { print; bad = 1 } END { exit bad }' "$room/run" >&2; then
+            echo "bench: $program gave torn or old records" >&2
+            exit 1
+        fi
+        grep -v '^#' "$room/run" >>"$room/lines"
     done
     echo "# round $round of $rounds" >&2
 done
