@@ -150,10 +150,12 @@ tells_less() {
     sed "$1" "$made/BUILD-INFO" >"$packages/info" && tells_build "$packages/info"
 }
 
-# Whether the Debian package is packed by gzip, and its version and size, in KiB by files, are those of what it has.
+# Whether the Debian package is packed by gzip, its version and size, in KiB by files, are those of what it has, and it goes beside the other
+# machine's if that was made with it.
 is_debian() {
     [ "$(ar t "$1" | tr '\n' ' ')" = 'debian-binary control.tar.gz data.tar.gz ' ] || { echo "it has $(ar t "$1" | tr '\n' ' ')" && return 1; }
     [ "$(dpkg-deb -f "$1" Version)" = "$version" ] || { echo "version $(dpkg-deb -f "$1" Version)" && return 1; }
+    [ "$(dpkg-deb -f "$1" Multi-Arch)" = "${has_arm:+same}" ] || { echo "Multi-Arch: $(dpkg-deb -f "$1" Multi-Arch)" && return 1; }
     kilobytes=$(dpkg-deb --fsys-tarfile "$1" | tar -tv | awk '/^-/ { sum += int(($3 + 1023) / 1024) } END { print sum }')
     [ "$(dpkg-deb -f "$1" Installed-Size)" = "$kilobytes" ] || { echo "size $(dpkg-deb -f "$1" Installed-Size), not $kilobytes" && return 1; }
 }
