@@ -420,8 +420,8 @@ class Builder:
 
 
 def oldest_below(crate):
-    """When the first of the libraries below it was built by the gate: what was edited since then isn't in them."""
-    return min([time.time(), *(os.path.getmtime(f"{it.folder}/out/rlib/{it.name}.rlib") for it in crate.below)])
+    """The time of the oldest of the gate's libraries below it: what was edited since then isn't in them."""
+    return min(os.path.getmtime(f"{it.folder}/out/rlib/{it.name}.rlib") for it in crate.below)
 
 
 def build_over_gate(crate):
@@ -434,7 +434,6 @@ def build_over_gate(crate):
         shutil.rmtree(crate.proofs, ignore_errors=True)
         if os.path.exists(f"{crate.stated}/proofs_of"):
             os.remove(f"{crate.stated}/proofs_of")
-    began = oldest_below(crate)
     command = crate.commands(Kit(), 1, "rlib", crate.made)[0]
     done = subprocess.run(command, cwd=crate.folder, stdin=subprocess.DEVNULL, stdout=subprocess.PIPE, stderr=subprocess.STDOUT, check=False)
     told = done.stdout.decode("utf-8", "replace")
@@ -442,7 +441,7 @@ def build_over_gate(crate):
     if done.returncode == 0:
         crate.keep_verdict(told)
         if crate.is_static:
-            os.utime(crate.made, (began, began))
+            os.utime(crate.made, (oldest_below(crate),) * 2)
     return done.returncode
 
 
