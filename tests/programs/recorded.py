@@ -57,6 +57,30 @@ def faults_by_hand(recorder):
     return faults
 
 
+def faults_of_unfinished(recorder):
+    """Writes in which something raises behind the call: they have lines without an end. A record that is no JSON is never written."""
+    line, faults = row(3, "write", 10, "null", 7), []
+    for name, record, looks, took_effect, wanted in (
+        ("an effect that can't be told", 7, [10, 20], lambda given: fail(), [["called"], line, ValueError]),
+        ("an interrupt behind the call", 7, [10, KeyboardInterrupt], lambda given: True, [["called"], line, KeyboardInterrupt]),
+        ("a record that is no JSON", b"7", [10, 20], lambda given: True, [[], "", TypeError]),
+    ):
+        text, found = Kept(), [[]]
+        try:
+            recorder.Log(3, text, lambda it=iter(looks): look(next(it))).write(record, lambda to=found[0]: to.append("called"), took_effect)
+        except (ValueError, TypeError, KeyboardInterrupt) as why:
+            found += [text.kept, type(why)]
+        if found != wanted:
+            faults.append(f"{name}: {found} of {text.getvalue()}")
+    return faults
+
+
+def look(moment):
+    if moment is KeyboardInterrupt:
+        raise moment
+    return moment
+
+
 def publish(folder, number, whole):
     """A record of two numbers: in a file that is replaced whole, or in two files."""
     for name in ("all",) if whole else ("first", "second"):
@@ -104,7 +128,8 @@ def main():
     parser.add_argument("--tool", default=f"{TOP}/tools/convert")
     tool = parser.parse_args().tool
     sys.path.insert(0, tool)
-    faults = faults_by_hand(importlib.import_module("recorder"))
+    recorder = importlib.import_module("recorder")
+    faults = faults_by_hand(recorder) + faults_of_unfinished(recorder)
     if faults:
         print("\n".join(faults))
         return 1

@@ -4,9 +4,10 @@
     log.write(record, lambda: put(key, record))
     value = log.read(lambda: get(key))            # the record is what the call gives, or what `record_of` makes of it
 
-A line is written when an operation ends. A write that raises an error has one without an end, and is the last of its task: make another
-log. A read that does is left out. Times are nanoseconds of CLOCK_MONOTONIC, those of `nidzaru_log.h` with NIDZARU_LOG_TSC 0. For
-`fsr order`, `cat` or join.py joins a header, {"kind":"lines","opening":RECORD}, and the files.
+A line is written when an operation ends. A write in which anything raises, also an interrupt, has one without an end, and is the last of
+its task: make another log. Such a read is left out. A process that is killed in a write leaves no line of it; a read of that record is
+`unwritten`, then. Times are nanoseconds of CLOCK_MONOTONIC, those of `nidzaru_log.h` with NIDZARU_LOG_TSC 0. For `fsr order`, `cat` or
+join.py joins a header, {"kind":"lines","opening":RECORD}, and the files.
 """
 
 import json
@@ -19,32 +20,36 @@ class Log:
 
     def write(self, record, call, took_effect=lambda given: True):
         """Records a call that writes, unless it did nothing by what it gave."""
-        begin = self.begin()
+        tail, end, is_there = tail_of(record), "null", True
+        head = self.begin("write")
         try:
             given = call()
-        except BaseException:
-            self.put("write", begin, None, record)
-            raise
-        end = self.clock()
-        if took_effect(given):
-            self.put("write", begin, end, record)
+            self.last_end = self.clock()
+            is_there = took_effect(given)
+            end = str(self.last_end)
+        finally:
+            # (texts alone are joined here, so that no interrupt comes between)
+            if is_there:
+                self.to.write(head + end + tail)
+                self.to.flush()
         return given
 
     def read(self, call, record_of=lambda given: given):
-        begin = self.begin()
+        head = self.begin("read")
         given = call()
-        self.put("read", begin, self.clock(), record_of(given))
+        self.last_end = self.clock()
+        self.to.write(f"{head}{self.last_end}{tail_of(record_of(given))}")
+        self.to.flush()
         return given
 
-    def begin(self):
-        """A moment after the task's last end."""
+    def begin(self, kind):
+        """What stands before the end in the line of an operation that begins now, after the last end."""
         now = self.clock()
         while now <= self.last_end:
             now = self.clock()
-        return now
+        self.last_end = now
+        return f'{{"who":{self.who},"kind":"{kind}","begin":{now},"end":'
 
-    def put(self, kind, begin, end, record):
-        self.last_end = begin if end is None else end
-        row = {"who": self.who, "kind": kind, "begin": begin, "end": end, "record": record}
-        self.to.write(json.dumps(row, separators=(",", ":")) + "\n")
-        self.to.flush()
+
+def tail_of(record):
+    return f',"record":{json.dumps(record, separators=(",", ":"))}}}\n'
