@@ -5,9 +5,10 @@
 
 The functions are check, order, play and picture. The library is the file that NIDZARU_CHECK names in the environment, else
 libnidzaru_check.so beside this file; `python/build` makes it. As a program, `nidzaru_check.py order < LOG` prints what `fsr order` prints,
-with its status.
+with its status, which is 5 if it can't read or write, or has no library.
 """
 
+import contextlib
 import ctypes
 import os
 import sys
@@ -44,7 +45,19 @@ def _load():
     return library
 
 
-_library = _load()
+def _fail(why):
+    """The end of the program where it can't answer."""
+    with contextlib.suppress(OSError):
+        os.write(2, f"nidzaru_check: {why}\n".encode())
+    return 5
+
+
+try:
+    _library = _load()
+except OSError as no_library:
+    if __name__ != "__main__":
+        raise
+    sys.exit(_fail(no_library))
 
 
 def _ask(function, document, *words):
@@ -87,8 +100,17 @@ def main(words):
     if name not in functions or tuple(rest) not in shows or (rest and name != "order"):
         print("usage: nidzaru_check.py check | order [--order | --small] | play | picture", file=sys.stderr)
         return 2
-    answer = functions[name](sys.stdin.buffer.read(), *shows[tuple(rest)])
-    (sys.stdout if answer.status <= 1 else sys.stderr).write(answer.text)
+    try:
+        with open(0, "rb", closefd=False) as stream:
+            document = stream.read()
+    except OSError:
+        return _fail("read failed")
+    answer = functions[name](document, *shows[tuple(rest)])
+    try:
+        with open(1 if answer.status <= 1 else 2, "wb", closefd=False) as stream:
+            stream.write(answer.text.encode())
+    except OSError:
+        return _fail("write failed")
     return answer.status
 
 

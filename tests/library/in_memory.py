@@ -3,6 +3,7 @@ that stand beside them.
 
     in_memory.py LIBRARY [--planted]     LIBRARY: the shared object; --planted: with the text of another document, which has to be seen
     in_memory.py --program PROGRAM [--planted]     PROGRAM: in_memory.c, built
+    in_memory.py --streams MODULE     what the module does as a program whose streams fail, over a stand-in for the library
 """
 
 import ctypes
@@ -65,6 +66,48 @@ def cut(module):
             yield f"a buffer of {room} bytes has {buffer.raw!r}, and the length is {size.value}"
 
 
+# Runs a module as a program, whose library answers a document with its own text, and one that is empty with a refusal.
+OVER_STAND_IN = """
+import ctypes, runpy, sys
+class StandIn:
+    def __getattr__(self, name):
+        def answer(*words):
+            document, count, buffer, room, size = words[-5:]
+            text = document or b"refused\\n"
+            ctypes.memmove(buffer, text, min(len(text), room))
+            size._obj.value = len(text)
+            return 0 if document else 3
+        self.__dict__[name] = answer
+        return answer
+ctypes.CDLL = lambda path: StandIn()
+del sys.argv[0]
+runpy.run_path(sys.argv[0], run_name="__main__")
+"""
+
+
+def streams(path):
+    """What a module gives as a program: texts as they are, whatever the environment's letters, and a status for a stream that fails."""
+    kind = "nidzaru_check: {} failed\n".format
+    for name, ends, document, wanted in (
+        ("a text", "", "\u00e4\n", (0, "\u00e4\n", "")),
+        ("a refusal", "", "", (3, "", "refused\n")),
+        ("a full output", ">/dev/full", "a\n", (5, "", kind("write"))),
+        ("a closed output", ">&-", "a\n", (5, "", kind("write"))),
+        ("a full stream of errors", "2>/dev/full", "", (5, "", "")),
+        ("a closed input", "<&-", "a\n", (5, "", kind("read"))),
+    ):
+        command = ["sh", "-c", f'"$@" {ends}', "sh", sys.executable, "-B", "-c", OVER_STAND_IN, path, "order"]
+        env = {**os.environ, "PYTHONIOENCODING": "ascii"}
+        done = subprocess.run(command, input=document.encode(), capture_output=True, env=env, check=False)
+        if "/dev/full" not in ends or os.path.exists("/dev/full"):
+            found = (done.returncode, done.stdout.decode(), done.stderr.decode())
+            yield from [] if found == wanted else [f"{name}: {found}"]
+    env = {**os.environ, "NIDZARU_CHECK": "/dev/null/none"}
+    done = subprocess.run([sys.executable, "-B", path, "order"], input=b"", capture_output=True, env=env, check=False)
+    if done.returncode != 5 or done.stderr.count(b"\n") != 1 or not done.stderr.startswith(b"nidzaru_check: /dev/null/none: "):
+        yield f"no library: {done}"
+
+
 class Told(NamedTuple):
     """What a program printed, as the module for Python has it."""
 
@@ -89,17 +132,21 @@ def main(library, *words):
         found = list(faults(through(words[0]), "--planted" in words))
         print("\n".join(found or [f"{len(list(cases()))} documents"]))
         return 1 if found else 0
+    if library == "--streams":
+        found = list(streams(words[0]))
+        print("\n".join(found or ["streams that fail"]))
+        return 1 if found else 0
     os.environ["NIDZARU_CHECK"] = library
     import nidzaru_check
 
-    found = [*faults(nidzaru_check, "--planted" in words), *cut(nidzaru_check)]
+    found = [*faults(nidzaru_check, "--planted" in words), *cut(nidzaru_check), *streams(nidzaru_check.__file__)]
     for wanted, document in ((ValueError, "{"), (None, text_of(f"{TOP}/examples/lawful.json"))):
         try:
             nidzaru_check.check(document).is_lawful
             found += ["a refused document has a verdict"] if wanted else []
         except ValueError:
             found += [] if wanted else ["a lawful document has none"]
-    print("\n".join(found or [f"{len(list(cases()))} documents, and buffers that are too small"]))
+    print("\n".join(found or [f"{len(list(cases()))} documents, buffers that are too small, and streams that fail"]))
     return 1 if found else 0
 
 

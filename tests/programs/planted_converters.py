@@ -1,4 +1,4 @@
-"""Wrong converters, which their test must refuse: each is one edit of a file of tools/convert/.
+"""Wrong converters, which their test must refuse: each is one edit of a file of tools/convert/, or of python/nidzaru_check.py.
 
     planted_converters.py [WORD..]     with words those edits alone whose names have one of them
 
@@ -15,6 +15,7 @@ import tempfile
 
 TOP = os.path.dirname(os.path.dirname(os.path.dirname(os.path.realpath(__file__))))
 TOOLS = f"{TOP}/tools/convert"
+MODULE = "nidzaru_check.py"
 # What stands before a command, and so many seconds it may take.
 BEFORE, LONGEST = [], 120
 
@@ -173,6 +174,12 @@ PLANTED = [
     ("a stream that takes nothing, of join.py", "join.py", "sys.stdout.flush()", "pass", "joined"),
     ("a folder that is there", "lines.py", "exist_ok=True", "exist_ok=False", "streams"),
     ("a stream that takes nothing", "lines.py", "sys.stdout.flush()", "pass", "streams"),
+    ("a stream that takes nothing, of nidzaru_check.py", "nidzaru_check.py", 'except OSError: return _fail("write failed")', "except OSError:\n        raise", "asked"),
+    ("a stream that gives nothing, of nidzaru_check.py", "nidzaru_check.py", 'except OSError: return _fail("read failed")', "except OSError:\n        raise", "asked"),
+    ("a library that isn't there, of nidzaru_check.py", "nidzaru_check.py", 'if __name__ != "__main__": raise', "raise", "asked"),
+    ("letters of the environment, of nidzaru_check.py", "nidzaru_check.py",
+     'with open(1 if answer.status <= 1 else 2, "wb", closefd=False) as stream: stream.write(answer.text.encode())',
+     "print(answer.text, end='', file=sys.stdout if answer.status <= 1 else sys.stderr, flush=True)", "asked"),
     ("what a stream didn't take, told twice", "join.py", "sys.stdout = None", "pass", "joined"),
     ("lines as they come", "join.py", 'key=lambda row: row["begin"]', 'key=lambda row: row["who"]', "joined"),
     ("texts as keys", "edn.py", "Map(zip(map(text_of, items[::2]), items[1::2]))", "Map(zip(map(str, items[::2]), items[1::2]))", "jepsen_keys_of_maps"),
@@ -209,10 +216,12 @@ def run(*words):
 
 def passes(folder, names):
     """Whether these histories pass, and, if they are among them, what is joined, explained and recorded in Python."""
-    histories = [name for name in names if name not in ("joined", "recorded", "explained")]
+    histories = [name for name in names if name not in ("joined", "recorded", "explained", "asked")]
     well, said = run(f"{TOP}/tests/programs/converters.py", "--here", "--tools", folder, *histories) if histories else (True, "")
     if well and "recorded" in names:
         well, said = run(f"{TOP}/tests/programs/recorded.py", "--tool", folder)
+    if well and "asked" in names:
+        well, said = run(f"{TOP}/tests/library/in_memory.py", "--streams", f"{folder}/nidzaru_check.py")
     if well and "explained" in names:
         well, said = run(f"{TOP}/tests/programs/explained.py", "--tool", f"{folder}/explain.py")
     if well and "joined" in names:
@@ -220,9 +229,13 @@ def passes(folder, names):
     return well, said
 
 
+def path_of(name):
+    return f"{TOP}/python/{name}" if name == MODULE else f"{TOOLS}/{name}"
+
+
 def why_not_refused(folder, name, old, new, names):
     """Nothing if the edit is refused."""
-    with open(f"{TOOLS}/{name}", encoding="utf-8") as file:
+    with open(path_of(name), encoding="utf-8") as file:
         text = file.read()
     pattern = r"\s+".join(re.escape(word) for word in old.split())
     found = len(re.findall(pattern, text))
@@ -231,7 +244,7 @@ def why_not_refused(folder, name, old, new, names):
     with open(f"{folder}/{name}", "w", encoding="utf-8") as file:
         file.write(re.sub(pattern, lambda _: new, text))
     well, _ = passes(folder, names.split())
-    shutil.copy(f"{TOOLS}/{name}", folder)
+    shutil.copy(path_of(name), folder)
     return f"{names} pass" if well else None
 
 
@@ -240,6 +253,7 @@ def main(words):
     with tempfile.TemporaryDirectory() as room:
         folder = f"{room}/tools"
         shutil.copytree(TOOLS, folder)
+        shutil.copy(path_of(MODULE), folder)
         well, said = passes(folder, sorted({name for it in edits for name in it[4].split()}))
         failed = [] if well else [f"the converters: FAILED as they are: {said}"]
         if why_not_refused(folder, "lines.py", '"""A record as a word, by which records are compared."""', "", "jepsen_fail") is None:
