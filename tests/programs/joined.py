@@ -119,6 +119,9 @@ BY_HAND = [
     ([], [HEAD + "{\n"], ":2: not JSON"),
     ([], [HEAD + "7\n"], ":2: this is no object"),
     ([], [HEAD + '{"who":0}\n'], ":2: this is no operation"),
+    *[(words, [HEAD + WRITES, '{"who":1,"kind":"read","begin":150,"record":1}\n'], "/1:1: this is no operation") for words in ([], ["--skew", "3"])],
+    ([], [HEAD, WRITES.encode() + b"\xff\n"], "/1:3: this isn't UTF-8"),
+    *[([], [f'{{"kind":"lines","opening":0,"limit":{limit}}}\n'], ":1: a limit is a number") for limit in ("[3]", "-3")],
 ]
 
 
@@ -168,6 +171,22 @@ def faults_of_streams(room):
                 run = subprocess.run(command, stdout=out, stderr=subprocess.PIPE, text=True, env=env, check=False)
             if run.returncode != 5 or not run.stderr.endswith(f"{why}\n") or run.stderr.count("\n") != 1:
                 faults.append(f"{name}: status {run.returncode}: {run.stderr}")
+    return faults
+
+
+def faults_of_words(room):
+    """A pipe, of text and of what a thread left, and numbers below 0."""
+    faults = []
+    with open(f"{room.folder}/head", "w", encoding="utf-8") as file:
+        file.write(HEAD)
+    for block, wanted in ((WRITES.encode(), HEAD + WRITES + done(2)), (left(LEFT), HEAD + LEFT_ROWS + done(2))):
+        run = subprocess.run([sys.executable, room.tool, f"{room.folder}/head", "/dev/stdin"], input=block, capture_output=True, check=False)
+        if (run.returncode, run.stdout.decode(), run.stderr) != (0, wanted, b""):
+            faults.append(f"a pipe: status {run.returncode}: {run.stdout}{run.stderr}")
+    for word in ("--skew", "--limit"):
+        status, out, err = room.join([word, "-3"], [HEAD + WRITES])
+        if (status, out) != (2, "") or not err.endswith(f"{word}: -3 is below 0\n"):
+            faults.append(f"{word} -3: status {status}: {out}{err}")
     return faults
 
 
@@ -223,7 +242,7 @@ def main():
     words = parser.parse_args()
     with tempfile.TemporaryDirectory() as folder:
         room = Room(folder, words.tool)
-        faults = faults_by_hand(room) or faults_of_streams(room) or faults_of_random(room, words.logs)
+        faults = faults_by_hand(room) or faults_of_streams(room) or faults_of_words(room) or faults_of_random(room, words.logs)
     print("\n".join(faults or [f"{len(BY_HAND)} joins as by hand, and {words.logs} random logs by two clocks"]))
     return 1 if faults else 0
 

@@ -12,7 +12,7 @@ ends. An operation that then overlaps the one before it of its task gets a task 
 later and that another clock isn't that exact. So a task's own order is kept in the first file alone: join once for each file, that one
 first. A register is wrong if any of these logs is unlawful.
 
-Status 3: the files can't be joined; 5: one can't be read or written.
+Status 3: the files can't be joined; 5: one can't be read or written. Each is read once, so it may be a pipe.
 """
 
 import argparse
@@ -35,10 +35,19 @@ class Operations:
     def __init__(self, path):
         self.path, self.header, self.rows = path, None, []
         with open(path, "rb") as file:
-            if file.read(len(MAGIC)) == MAGIC:
-                self.take_left(MAGIC + file.read())
-                return
-        for number, text in enumerate(lines.text_of_file(path).split("\n"), 1):
+            # (a pipe gives its bytes once)
+            block = file.read()
+        if block.startswith(MAGIC):
+            self.take_left(block)
+        else:
+            self.take_lines(block)
+
+    def take_lines(self, block):
+        try:
+            texts = lines.text_of_bytes(block).split("\n")
+        except lines.Refused as why:
+            raise lines.Refused(f"{self.path}:{why.line}", str(why)) from None
+        for number, text in enumerate(texts, 1):
             if text.strip():
                 self.add(number, self.row_of(number, text))
 
@@ -79,6 +88,8 @@ class Operations:
         if row.get("kind") == "lines":
             if number > 1:
                 raise lines.Refused(where, "a header behind the first line")
+            if not (row.get("limit") is None or lines.is_whole(row["limit"])):
+                raise lines.Refused(where, "a limit is a number from 0 on, of at most 64 bits")
             self.header = row
         elif row.get("kind") == "done":
             if row.get("ops") != len(self.rows):
@@ -86,10 +97,17 @@ class Operations:
         elif row.get("kind") == "floor":
             # (a joined log is judged at its end, and needs none)
             return
-        elif lines.is_whole(row.get("who")) and lines.is_whole(row.get("begin")) and (row.get("end") is None or lines.is_whole(row["end"])):
+        elif is_operation(row):
             self.rows.append(row)
         else:
             raise lines.Refused(where, "this is no operation")
+
+
+def is_operation(row):
+    """Whether a row has a task, a begin and an end, which may be `null`."""
+    if "end" not in row:
+        return False
+    return all(map(lines.is_whole, (row.get("who"), row.get("begin"), 0 if row["end"] is None else row["end"])))
 
 
 def widen(files, skew):
@@ -143,11 +161,17 @@ def joined(words):
     return [header, *rows, {"kind": "done", "ops": len(rows)}]
 
 
+def number_from_0(word):
+    if int(word) < 0:
+        raise argparse.ArgumentTypeError(f"{word} is below 0")
+    return int(word)
+
+
 def main():
     parser = argparse.ArgumentParser(description=__doc__, formatter_class=argparse.RawDescriptionHelpFormatter)
     parser.add_argument("--opening", type=json.loads, metavar="RECORD")
-    parser.add_argument("--limit", type=int, metavar="NUMBER")
-    parser.add_argument("--skew", type=int, metavar="NS")
+    parser.add_argument("--limit", type=number_from_0, metavar="NUMBER")
+    parser.add_argument("--skew", type=number_from_0, metavar="NS")
     parser.add_argument("files", nargs="+", metavar="FILE")
     words = parser.parse_args()
     try:

@@ -281,11 +281,13 @@ def write_logs(history, folder):
 
 def text_of_file(path):
     """The text of a file, or of standard input."""
-    if path:
-        with open(path, "rb") as file:
-            read = file.read()
-    else:
-        read = sys.stdin.buffer.read()
+    if not path:
+        return text_of_bytes(sys.stdin.buffer.read())
+    with open(path, "rb") as file:
+        return text_of_bytes(file.read())
+
+
+def text_of_bytes(read):
     try:
         return read.decode()
     except UnicodeDecodeError as why:
