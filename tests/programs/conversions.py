@@ -160,6 +160,11 @@ JEPSEN = {
     "no_operation": ("{:type :invoke, :f :write, :value 1, :process 0}\n:why\n", "line 2: this is no operation of a history"),
     "no_process": ("{:type :invoke, :f :write, :value 1}\n", "line 1: this is no operation of a history"),
     "no_type": ("{:f :write, :value 1, :process 0}\n", "line 1: this is no operation of a history"),
+    "function_of_a_list": (
+        "{:type :invoke, :f [1 2], :value 1, :process 0}\n",
+        "line 1: [1 2] is no :read, :write or :cas\nof 1 operations 1 can't be said: 1 of kind `[1 2]`",
+    ),
+    "end_of_a_list": (jepsen("[1] ok write 3"), "line 1: [1] ends what it hadn't begun"),
     "no_function": ("{:type :invoke, :value 1, :process 0}\n", "line 1: nil is no :read, :write or :cas"),
     "counted": (
         jepsen("0 invoke append [1 2]", "0 ok append [1 2]", "0 invoke write 3", "0 ok write 3", "0 invoke write 3", "0 ok write 3",
@@ -222,6 +227,12 @@ JEPSEN = {
     "nothing_that_stays": (jepsen("0 invoke read nil"), "line 1: there is no operation that ended"),
     "discarded": ("#_{:a 1} " + jepsen("0 invoke write #tag 3") + "#_ 7", {"only": log("lawful", "0 write 0 null 3")}),
     "one_vector": ("[" + jepsen("0 invoke write 3", "0 ok write 3") + "]", {"only": log("lawful", "0 write 0 1 3")}),
+    "vector_and_a_note": ("[" + jepsen("0 invoke write 3", "0 ok write 3") + "] ; the end\n#_ 7", {"only": log("lawful", "0 write 0 1 3")}),
+    "two_vectors": (
+        "[" + jepsen("0 invoke write 3", "0 ok write 3") + "]\n[" + jepsen("1 invoke read nil", "1 ok read 4") + "]",
+        "line 4: [ behind the vector"),
+    "more_behind_a_vector": ("[" + jepsen("0 invoke write 3") + "]\n" + jepsen("0 ok write 3"), "line 3: { behind the vector"),
+    "closed_twice": ("[" + jepsen("0 invoke write 3") + "]]", "line 2: ] behind the vector"),
     "cut_off": ("[" + jepsen("0 invoke write 3", "0 ok write 3"), "line 3: an end where ] belongs"),
     "unended": ('{:a "x', "line 1: no EDN"),
     "closed": (jepsen("0 invoke write 3") + "}", "line 2: } where a value belongs"),
@@ -351,6 +362,11 @@ PORCUPINE = {
         {"only": log("lawful", "0 write 1 null 3")},
     ),
     "no_line_of_a_nemesis": ("INFO  jepsen.util - 0\t:invoke\t:write\t3\nINFO  why\n", "line 2: this is no event"),
+    "two_events_of_keys": (
+        keys('0 invoke put x "1"') + keys('0 ok put x "1"', "1 invoke get x nil").replace("\n", " ", 1),
+        "line 2: more than one event on a line"),
+    "two_events": (
+        "INFO  jepsen.util - 0\t:invoke\t:write\t3 INFO  jepsen.util - 0\t:ok\t:write\t3\n", "line 1: more than one value on a line"),
     "no_line": ("INFO  jepsen.util - 0\t:invoke\t:write\t3\nWARN  why\n", "line 2: this is no event"),
     "endless_line": ("INFO  jepsen.util - 0\t:invoke\t:write\t1e999\n", "line 1: a number that is too large"),
     "returns_at_nothing": (
@@ -466,7 +482,7 @@ PORCUPINE = {
         {"only": repeats("lawful", '0 cas 0 null "nil" 3 null', "1 cas 2 null 3 4 null", "2 cas 4 5 4 5 false", "3 read 6 7 4")},
         ("--failed-cas-missed",),
     ),
-    "cas_and_more": ("INFO  jepsen.util - 0\t:invoke\t:cas\t[3 4] 5\n", "line 1: this is no event"),
+    "cas_and_more": ("INFO  jepsen.util - 0\t:invoke\t:cas\t[3 4] 5\n", "line 1: more than one value on a line"),
     "cas_of_no_event": ("INFO  jepsen.util - 0\t:invoke\t:cas\t[3 4\n", "line 1: this is no event"),
     "cas_of_keys": (
         keys('0 invoke put x "1"', '0 ok put x "1"', '0 invoke cas x ["1" "2"]', '0 ok cas x ["1" "2"]', "1 invoke get x nil", '1 ok get x "1"'),

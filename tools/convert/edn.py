@@ -136,22 +136,24 @@ def word_of(text):
 
 
 def values_of(text):
-    """The values of a text, each with its line. Where all stand in one vector, these of the vector."""
-    reader = Reader(text)
+    """The values of a text, each with its line. Where all stand in one vector, these of the vector, behind which nothing may stand."""
+    reader, is_over = Reader(text), False
     try:
         token = reader.next()
         inside = token is not None and token[:2] == ("open", "[")
         if inside:
             token = reader.next()
         while token is not None:
-            if inside and token[:2] == ("close", "]"):
-                return
             if token[0] == "discard":
                 reader.value(reader.wanted(token[2]))
+            elif is_over:
+                raise NoEdn(token[2], f"{token[1]} behind the vector")
+            elif inside and token[:2] == ("close", "]"):
+                is_over = True
             else:
                 yield token[2], reader.value(token)
             token = reader.next()
     except RecursionError:
         raise NoEdn(reader.line, "nested too deep") from None
-    if inside:
+    if inside and not is_over:
         raise NoEdn(reader.line, "an end where ] belongs")

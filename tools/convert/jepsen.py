@@ -60,7 +60,7 @@ def has_key(event):
 
 
 def is_taken(event):
-    return event.get(":f") in KINDS
+    return edn.text_of(event.get(":f")) in KINDS
 
 
 def read_history(text):

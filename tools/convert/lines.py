@@ -126,7 +126,7 @@ class History:
         self.calls.append(self.under_way[name])
 
     def returned(self, line, name, kind):
-        if name not in self.under_way:
+        if not isinstance(name, (int, str)) or name not in self.under_way:
             raise Refused(line, f"{edn.text_of(name)} ends what it hadn't begun")
         call = self.under_way.pop(name)
         if call.kind != kind:

@@ -72,9 +72,9 @@ def read_keys(rows):
     history = lines.History(edn.Text(""))
     for place, (line, row) in enumerate(rows):
         try:
-            _, event = next(edn.values_of(row))
+            event = one_value(line, row, "event")
             who, moment, name, key = event[":process"], str(event[":type"]).lstrip(":"), event[":f"], event[":key"]
-        except (edn.NoEdn, KeyError, TypeError, StopIteration):
+        except (KeyError, TypeError):
             raise lines.Refused(line, "this is no event") from None
         try:
             add_event(history, (line, place, who, moment), kind_of(name), event.get(":value"), key=key)
@@ -88,17 +88,26 @@ def leave_out(history, line, moment, what):
         history.leave_out(untakeable(line, what))
 
 
-def value_of(line, text):
-    """A word, or the two values of a compare-and-set."""
-    if not text.startswith("["):
-        return edn.word_of(text)
+def one_value(line, text, what):
+    """The only value of a text; `what` says what it is."""
     try:
         values = [it for _, it in edn.values_of(f"[{text}\n]")]
     except edn.NoEdn:
         values = []
-    if len(values) != 1:
+    if len(values) > 1:
+        raise lines.Refused(line, f"more than one {what} on a line")
+    if not values:
         raise lines.Refused(line, "this is no event")
     return values[0]
+
+
+def value_of(line, text):
+    """A word, or the two values of a compare-and-set."""
+    if text.startswith("["):
+        return one_value(line, text, "value")
+    if len(text.split()) > 1:
+        raise lines.Refused(line, "more than one value on a line")
+    return edn.word_of(text)
 
 
 def read_jepsen(rows):
