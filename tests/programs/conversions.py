@@ -120,6 +120,15 @@ JEPSEN = {
         "line 3: the keys :a and \"_a\" would both be _a.jsonl",
         ("--to", "/dev/null/none"),
     ),
+    "names_that_hide": (
+        jepsen('0 invoke write ["" 3]', '0 ok write ["" 3]', '0 invoke write [".y" 4]', '0 ok write [".y" 4]', '0 invoke write ["a.b" 5]'),
+        {"_": log("lawful", "0 write 0 1 3"), "_.y": log("lawful", "0 write 2 3 4"), "a.b": log("lawful", "0 write 4 null 5")},
+    ),
+    "same_names_that_hide": (
+        jepsen('0 invoke write [".y" 1]', '0 ok write [".y" 1]', '0 invoke write ["_.y" 1]'),
+        'line 3: the keys ".y" and "_.y" would both be _.y.jsonl',
+        ("--to", "/dev/null/none"),
+    ),
     "maps": (
         jepsen("0 invoke write {:a 1 :b #{2 1}}", "0 ok write {:a 1 :b #{1 2}}", "1 invoke read nil", "1 ok read {:b #{2 1} :a 1}"),
         {"only": log("lawful", '0 write 0 1 "{:a 1, :b #{1 2}}"', '1 read 2 3 "{:a 1, :b #{1 2}}"')},

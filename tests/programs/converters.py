@@ -158,13 +158,24 @@ class Converter:
             return self.faults_of_refused(name, wanted, text, words)
         return self.faults_of_logs(name, wanted, text, words)
 
-    def faults_of_streams(self):
-        """A folder that is there, a file that isn't, a folder that can't be, a stream that takes nothing."""
+    def faults_of_folder(self):
+        """A folder that is there, which gets a log that it has again, keeps what is no log, and is refused with a log of another key."""
         faults, history = [], f"{HERE}/jepsen_register.edn"
         with tempfile.TemporaryDirectory() as folder:
-            status, _, err = self.convert("jepsen_streams", "--to", folder, history, text=b"")
-            if status or err or not os.listdir(folder):
-                faults.append(f"a folder that is there: status {status}: {err}")
+            open(f"{folder}/notes.txt", "w", encoding="utf-8").close()
+            for _ in range(2):
+                status, _, err = self.convert("jepsen_streams", "--to", folder, history, text=b"")
+                if status or err or set(os.listdir(folder)) != {"log.jsonl", "notes.txt"}:
+                    faults.append(f"a folder that is there: status {status}: {err}")
+            status, out, err = self.convert("jepsen_streams", "--to", folder, f"{HERE}/jepsen_keys.edn", text=b"")
+            wanted = (5, "", f"jepsen: {folder}/log.jsonl: a log of another history is in the folder\n")
+            if (status, out, err) != wanted or set(os.listdir(folder)) != {"log.jsonl", "notes.txt"}:
+                faults.append(f"a folder with another log: status {status}: {err}")
+        return faults
+
+    def faults_of_streams(self):
+        """A folder that is there, a file that isn't, a folder that can't be, a stream that takes nothing."""
+        faults, history = self.faults_of_folder(), f"{HERE}/jepsen_register.edn"
         for words, why in (([f"{HERE}/none"], "none: No such file"), (["--to", f"{HERE}/jepsen_cas.edn", history], "jepsen_cas.edn: File exists")):
             status, out, err = self.convert("jepsen_streams", *words, text=b"")
             if (status, out, err.count("\n")) != (5, "", 1) or why not in err:

@@ -4,8 +4,8 @@
     jepsen.py [--to FOLDER] [--opening VALUE] [--repeats] [--failed-cas-missed] [HISTORY.edn]
 
 The history is EDN, an operation a line or one vector of them: `{:type :invoke, :f :write, :value 3, :process 0, ..}`. Where each value is
-`[key value]`, each key has a log of its own, FOLDER/KEY.jsonl: a history is linearizable if the history of each key is. Without --to the
-only log goes to standard output.
+`[key value]`, each key has a log of its own, FOLDER/KEY.jsonl: a history is linearizable if the history of each key is. A folder with other
+logs is refused. Without --to the only log goes to standard output.
 
 - `:invoke` and `:ok` are the begin and the end of an operation. Times are the events' places in the history, so nothing touches.
 - The value is that of the `:ok`. What is `nil` in a write's `:invoke` may have become known: `[nil 3]` ends as `[7 3]`, the 7th version.

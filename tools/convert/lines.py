@@ -2,6 +2,7 @@
 
 import argparse
 import collections
+import errno
 import itertools
 import json
 import os
@@ -253,12 +254,15 @@ def is_unicode(record):
 
 
 def file_name(key):
-    """The file of a key, in which what isn't a letter, a figure, `-`, `.` or `_` is `_`; without keys it is `log.jsonl`."""
-    return ("log" if key is None else re.sub(r"[^\w.-]", "_", key.strip('"'))) + ".jsonl"
+    """The file of a key, in which what isn't a letter, a figure, `-`, `.` or `_` is `_`; without keys it is `log.jsonl`. As `*.jsonl` finds
+    no hidden file, `_` stands before a point in front, and for nothing."""
+    name = "log" if key is None else re.sub(r"[^\w.-]", "_", key.strip('"'))
+    return ("_" if name[:1] in ("", ".") else "") + name + ".jsonl"
 
 
 def write_logs(history, folder):
-    """Each key's log into a file of the folder, or the only one to standard output."""
+    """Each key's log into a file of the folder, or the only one to standard output. A folder with other logs is refused: who judges all of
+    them would judge these, too."""
     logs = history.logs()
     if not logs:
         raise Refused(1, "there is no operation that ended" if history.calls else "there is no operation of a register")
@@ -274,6 +278,9 @@ def write_logs(history, folder):
             raise Refused(calls[0].line, f"the keys {names[name]} and {key} would both be {name}")
     texts = {file_name(key): text_of(history, calls) for key, calls in logs.items()}
     os.makedirs(folder, exist_ok=True)
+    for name in sorted(os.listdir(folder)):
+        if name.endswith(".jsonl") and name not in texts:
+            raise FileExistsError(errno.EEXIST, "a log of another history is in the folder", os.path.join(folder, name))
     for name, text in texts.items():
         with open(os.path.join(folder, name), "w", encoding="utf-8") as file:
             file.write(text)
@@ -305,7 +312,7 @@ def opening_of(word):
 
 def run(name, page, read):
     """Runs a converter: reads a history from the file or standard input, and writes its logs. Status 3: it can't be said; 5: a file can't
-    be read or written."""
+    be read or written, or the folder has other logs."""
     parser = argparse.ArgumentParser(description=page, formatter_class=argparse.RawDescriptionHelpFormatter)
     parser.add_argument("--to", metavar="FOLDER")
     # (a list, as the value that is asked for may be `None`)

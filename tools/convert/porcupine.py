@@ -16,10 +16,11 @@ Three forms are known by their first line:
 - the operations of etcd's robustness tests are such, with its own inputs and outputs: a `range` of one key, or a `txn` of one put without
   conditions. A record is `[revision, value]`. A put that failed is unfinished, and has the revision of the read that shows it.
 
-Each key has a log of its own, FOLDER/KEY.jsonl; without --to the only one goes to standard output. Times are `Call` and `Return`, or the
-events' places. A write or a `cas` without a return stands there without an end, a read without one is left out. A log with a `cas`, or with
-a value that is written twice or is the opening, has `"repeats":true`, with --repeats every log. `append` and all else can't be said: the
-first such line is told, and how many there are of each kind, with status 3. The opening is a word of EDN.
+Each key has a log of its own, FOLDER/KEY.jsonl; a folder with other logs is refused. Without --to the only one goes to standard output.
+Times are `Call` and `Return`, or the events' places. A write or a `cas` without a return stands there without an end, a read without one is
+left out. A log with a `cas`, or with a value that is written twice or is the opening, has `"repeats":true`, with --repeats every log.
+`append` and all else can't be said: the first such line is told, and how many there are of each kind, with status 3. The opening is a word
+of EDN.
 
 In a log a `cas` that ended with `:fail` is left out, as it may never have been tried. --failed-cas-missed takes it for one that found another
 value, as Porcupine's own test of these logs does; one that timed out is unknown.
