@@ -11,7 +11,7 @@ def log(verdict, *rows, opening='"nil"', header=""):
     for row in rows:
         who, kind, begin, end, record = row.split(" ", 4)
         if kind == "cas":
-            asked, record, swapped, *found = record.split(" ")
+            asked, record, swapped, *found = record.split(" ", 3)
             record = f'{record},"swapped":{swapped}' + "".join(f',"found":{it}' for it in found)
             end = f'{end},"from":{asked}'
         made.append(f'{{"who":{who},"kind":"{kind}","begin":{begin},"end":{end},"record":{record}}}')
@@ -219,6 +219,130 @@ JEPSEN = {
         jepsen("0 invoke write [0 [nil 3]]", "0 ok write [0 [nil 3]]", "1 invoke write [0 [nil 4]]", "2 invoke read [0 nil]", "2 ok read [0 [9 4]]"),
         {"0": log("unlawful unwritten 4", '0 write 0 1 "[nil 3]"', '1 write 2 null "[nil 4]"', "2 read 3 4 [9,4]")},
     ),
+    "nil_that_a_read_gives": (
+        jepsen("0 invoke write [1 nil 2]", "0 info write [1 nil 2]", "1 invoke read nil", "1 ok read [1 nil 2]"),
+        {"only": log("lawful", '0 write 0 null "[1 nil 2]"', '1 read 2 3 "[1 nil 2]"')},
+    ),
+    "nil_behind_a_version": (
+        jepsen("0 invoke write [0 [nil nil]]", "1 invoke read [0 nil]", "1 ok read [0 [1 nil]]"),
+        {"0": log("lawful", '0 write 0 null "[1 nil]"', '1 read 1 2 "[1 nil]"')},
+    ),
+    "version_beside_a_nil": (
+        jepsen("0 invoke write [0 [nil nil]]", "0 ok write [0 [1 nil]]", "1 invoke write [0 [nil 3]]", "2 invoke read [0 nil]",
+               "2 ok read [0 [2 3]]"),
+        {"0": log("lawful", '0 write 0 1 "[1 nil]"', "1 write 2 null [2,3]", "2 read 3 4 [2,3]")},
+    ),
+    "nil_and_a_version_at_one_place": (
+        jepsen("0 invoke write [0 [nil 3]]", "0 ok write [0 [nil 3]]", "0 invoke write [0 [nil 4]]", "0 ok write [0 [1 4]]",
+               "1 invoke write [0 [nil 5]]", "2 invoke read [0 nil]", "2 ok read [0 [2 5]]"),
+        {"0": log("lawful", '0 write 0 1 "[nil 3]"', "0 write 2 3 [1,4]", "1 write 4 null [2,5]", "2 read 5 6 [2,5]")},
+    ),
+    "nil_that_another_value_has": (
+        jepsen("0 invoke write [1 nil 2]", "0 ok write [1 nil 2]", "1 invoke write [1 nil 3]", "2 invoke read nil", "2 ok read [1 5 3]"),
+        {"only": log("unlawful unwritten 4", '0 write 0 1 "[1 nil 2]"', '1 write 2 null "[1 nil 3]"', "2 read 3 4 [1,5,3]")},
+    ),
+    "nil_of_two_unfinished_writes": (
+        jepsen("0 invoke write [1 nil 2]", "1 invoke write [1 nil 2]", "2 invoke read nil", "2 ok read [1 nil 2]", "2 invoke write 7",
+               "2 ok write 7", "2 invoke read nil", "2 ok read [1 nil 2]", "3 invoke write [1 nil 4]"),
+        {
+            "only": repeats("lawful", '0 write 0 null "[1 nil 2]"', '1 write 1 null "[1 nil 2]"', '2 read 2 3 "[1 nil 2]"', "2 write 4 5 7",
+                            '2 read 6 7 "[1 nil 2]"')
+        },
+    ),
+    "versions_of_which_one_fits_one_write": (
+        jepsen("0 invoke write [0 [nil 3]]", "1 invoke write [0 [nil nil]]", "2 invoke read [0 nil]", "2 ok read [0 [2 3]]",
+               "2 invoke read [0 nil]", "2 ok read [0 [5 6]]"),
+        {"0": log("lawful", "0 write 0 null [2,3]", "1 write 1 null [5,6]", "2 read 2 3 [2,3]", "2 read 4 5 [5,6]")},
+    ),
+    "version_or_a_write": (
+        jepsen("0 invoke write [0 [2 3]]", "1 invoke write [0 [nil 3]]", "2 invoke read [0 nil]", "2 ok read [0 [2 3]]"),
+        "line 3: nobody knows which of lines 1, 2 wrote what this read gave\n"
+        "of 3 operations 1 can't be said: 1 of kind `read of an unfinished write`",
+    ),
+    "version_or_a_cas": (
+        jepsen("1 invoke write [0 [nil 3]]", "0 invoke cas [0 [[0 0] [2 3]]]", "2 invoke cas [0 [[2 3] [4 4]]]",
+               "2 ok cas [0 [[2 3] [4 4]]]"),
+        "line 3: nobody knows which of lines 1, 2 wrote what this cas saw\n"
+        "of 3 operations 1 can't be said: 1 of kind `read of an unfinished write`",
+    ),
+    "version_that_a_miss_names": (
+        jepsen("0 invoke write [0 [nil 3]]", "1 invoke cas [0 [[0 0] [2 3]]]", "1 fail cas [0 [[0 0] [2 3]]]", "2 invoke read [0 nil]",
+               "2 ok read [0 [2 3]]"),
+        {"0": repeats("lawful", "0 write 0 null [2,3]", "1 cas 1 2 [0,0] [2,3] false", "2 read 3 4 [2,3]", opening="[0,0]")},
+        ("--opening", "[0 0]", "--failed-cas-missed"),
+    ),
+    "version_that_a_miss_found": (
+        jepsen("0 invoke write [0 [nil 3]]", "1 invoke cas [0 [[0 0] [5 5]]]", "1 fail cas [0 [[0 0] [5 5]]]"),
+        {"0": repeats("lawful", '0 write 0 null "[nil 3]"', "1 cas 1 2 [0,0] [5,5] false", opening="[0,0]")},
+        ("--opening", "[0 0]", "--failed-cas-missed"),
+    ),
+    "version_that_a_miss_asked_for": (
+        jepsen("0 invoke write [0 [nil 3]]", "1 invoke cas [0 [[2 3] [5 5]]]", "1 fail cas [0 [[2 3] [5 5]]]", "2 invoke read [0 nil]",
+               "2 ok read [0 [4 3]]"),
+        {"0": repeats("lawful", "0 write 0 null [4,3]", "1 cas 1 2 [2,3] [5,5] false", "2 read 3 4 [4,3]", opening="[0,0]")},
+        ("--opening", "[0 0]", "--failed-cas-missed"),
+    ),
+    "version_that_a_cas_asks_for": (
+        jepsen("0 invoke write [0 [nil 3]]", "1 invoke cas [0 [[2 3] [5 5]]]", "2 invoke read [0 nil]", "2 ok read [0 [5 5]]"),
+        {"0": repeats("lawful", "0 write 0 null [2,3]", "1 cas 1 null [2,3] [5,5] null", "2 read 2 3 [5,5]")},
+    ),
+    "version_that_a_cas_may_ask_for": (
+        jepsen("0 invoke write [0 [nil 3]]", "1 invoke cas [0 [[2 3] [5 5]]]", "2 invoke read [0 nil]", "2 ok read [0 [9 3]]"),
+        {"0": repeats("lawful", "0 write 0 null [9,3]", "1 cas 1 null [2,3] [5,5] null", "2 read 2 3 [9,3]")},
+    ),
+    "version_that_a_read_gives_too": (
+        jepsen("0 invoke write [0 [nil 3]]", "1 invoke cas [0 [[9 3] [5 5]]]", "2 invoke cas [0 [[2 3] [6 6]]]", "3 invoke read [0 nil]",
+               "3 ok read [0 [2 3]]"),
+        {"0": repeats("lawful", "0 write 0 null [2,3]", "1 cas 1 null [9,3] [5,5] null", "2 cas 2 null [2,3] [6,6] null", "3 read 3 4 [2,3]")},
+    ),
+    "nil_that_a_cas_keeps": (
+        jepsen("0 invoke write [nil 5 3]", "1 invoke cas [[2 5 3] [1 5 3]]", "2 invoke cas [[nil 5 3] [nil 5 3]]", "2 ok cas [[nil 5 3] [nil 5 3]]"),
+        "line 3: nobody knows which of lines 1, 3 wrote what this cas saw\n"
+        "of 3 operations 1 can't be said: 1 of kind `read of an unfinished write`",
+    ),
+    "nil_that_a_cas_keeps_of_two": (
+        jepsen("0 invoke write [nil 5 3]", "1 invoke cas [[nil 5 3] [nil 5 3]]", "1 ok cas [[nil 5 3] [nil 5 3]]", "2 invoke write [nil 5 3]",
+               "1 invoke read nil", "1 ok read [2 5 3]"),
+        "line 5: nobody knows which of lines 1, 4 wrote what this read gave\n"
+        "of 4 operations 1 can't be said: 1 of kind `read of an unfinished write`",
+    ),
+    "nil_that_a_cas_leaves": (
+        jepsen("0 invoke write [nil]", "1 invoke cas [0 9]", "1 ok cas [0 9]", "1 invoke cas [9 [nil]]", "1 ok cas [9 [nil]]",
+               "1 invoke cas [[nil] 7]", "1 ok cas [[nil] 7]", "2 invoke read nil", "2 ok read [2]"),
+        {
+            "only": repeats("lawful", '0 write 0 null "[2]"', "1 cas 1 2 0 9 true", '1 cas 3 4 9 "[nil]" true', '1 cas 5 6 "[nil]" 7 true',
+                            '2 read 7 8 "[2]"', opening="0")
+        },
+        ("--opening", "0"),
+    ),
+    "version_that_no_end_told": (
+        jepsen("0 invoke write [0 [nil 3]]", "0 ok write [0 nil]", "1 invoke read [0 nil]", "1 ok read [0 [7 3]]",
+               "1 invoke write [0 [nil 4]]", "1 ok write [0 nil]"),
+        {"0": log("lawful", "0 write 0 1 [7,3]", "1 read 2 3 [7,3]", '1 write 4 5 "[nil 4]"')},
+    ),
+    "version_of_a_finished_write_or_not": (
+        jepsen("0 invoke write [0 [nil 3]]", "1 invoke write [0 [nil 3]]", "0 ok write [0 nil]", "2 invoke read [0 nil]",
+               "2 ok read [0 [7 3]]"),
+        "line 4: nobody knows which of lines 1, 2 wrote what this read gave\n"
+        "of 3 operations 1 can't be said: 1 of kind `read of an unfinished write`",
+    ),
+    "versions_without_keys": (
+        jepsen("1 invoke write [nil 3]", "1 ok write [7 3]", "2 invoke read nil", "2 ok read [7 3]", "1 invoke write [nil 4]",
+               "2 invoke read [nil nil]", "2 ok read [8 4]"),
+        {"only": log("lawful", "1 write 0 1 [7,3]", "2 read 2 3 [7,3]", "1 write 4 null [8,4]", "2 read 5 6 [8,4]", opening='"[0 nil]"')},
+        ("--opening", "[0 nil]"),
+    ),
+    "versions_beside_keys": (
+        jepsen("0 invoke write [0 3]", "0 ok write [0 3]", "0 invoke write [nil 3]"),
+        "line 3: some values are [key value], and this is none"),
+    "unfinished_nil": (
+        jepsen("0 invoke write nil", "0 info write nil", "1 invoke read nil", "1 ok read 7"),
+        {"only": log("lawful", "0 write 0 null 7", "1 read 2 3 7")},
+    ),
+    "nil_that_stays": (
+        jepsen("0 invoke write nil", "0 ok write nil", "1 invoke write nil", "2 invoke read nil", "2 ok read 7"),
+        {"only": repeats("unlawful unwritten 4", '0 write 0 1 "nil"', '1 write 2 null "nil"', "2 read 3 4 7")},
+    ),
     "value_that_the_write_gave": (
         jepsen("0 invoke write nil", "0 ok write 7", "1 invoke read nil", "1 ok read 7"),
         {"only": log("lawful", "0 write 0 1 7", "1 read 2 3 7")},
@@ -376,6 +500,18 @@ PORCUPINE = {
         "line 2: more than one event on a line"),
     "two_events": (
         "INFO  jepsen.util - 0\t:invoke\t:write\t3 INFO  jepsen.util - 0\t:ok\t:write\t3\n", "line 1: more than one value on a line"),
+    "nil_of_keys": (
+        keys("0 invoke put x [1 nil 2]", "0 info put x [1 nil 2]", "1 invoke get x nil", "1 ok get x [1 nil 2]"),
+        {"x": log("lawful", '0 write 0 null "[1 nil 2]"', '1 read 2 3 "[1 nil 2]"', opening='"\\"\\""')},
+    ),
+    "null_that_a_read_gives": (
+        operation(0, 'put ["a",null]', 0, None) + operation(1, "get", 5, 6, '["a",null]'),
+        {"only": log("lawful", '0 write 0 null "[\\"a\\" nil]"', '1 read 5 6 "[\\"a\\" nil]"')},
+    ),
+    "null_that_is_a_value": (
+        operation(0, 'put ["a",null]', 0, None) + operation(1, "get", 5, 6, '["a",3]'),
+        {"only": log("unlawful unwritten 3", '0 write 0 null "[\\"a\\" nil]"', '1 read 5 6 "[\\"a\\" 3]"')},
+    ),
     "no_line": ("INFO  jepsen.util - 0\t:invoke\t:write\t3\nWARN  why\n", "line 2: this is no event"),
     "endless_line": ("INFO  jepsen.util - 0\t:invoke\t:write\t1e999\n", "line 1: a number that is too large"),
     "returns_at_nothing": (
@@ -454,6 +590,11 @@ PORCUPINE = {
     "etcd_failed": (
         put(0, "a", 10, 20, '{"Error":"timeout"}') + put(0, "b", 30, 40, '{"Revision":3}') + put(0, "c", 50, 60, "null") + get(1, 70, 80, shown("a", 2)),
         {"k": log("lawful", '2 write 10 null "[2 \\"a\\"]"', '0 write 30 40 "[3 \\"b\\"]"', '1 read 70 80 "[2 \\"a\\"]"')},
+    ),
+    "etcd_found": (
+        put(0, "a", 10, 20, '{"Error":"timeout"}')
+        + '{"ClientId":1,"Input":{"Op":"cas","Key":"k","From":1,"To":5},"Call":30,"Output":{"Ok":false,"Value":[2,"a"]},"Return":40}\n',
+        {"k": repeats("lawful", '0 write 10 null "[2 \\"a\\"]"', '1 cas 30 40 1 5 false "[2 \\"a\\"]"')},
     ),
     "etcd_counted": (
         put(0, "a", 10, 20, '{"Revision":2}', ',{"Type":"range-operation"}') + get(1, 30, 40, "null", end="l") + get(1, 50, 60, "null", revision=1)

@@ -8,9 +8,13 @@ The history is EDN, an operation a line or one vector of them: `{:type :invoke, 
 logs is refused. Without --to the only log goes to standard output.
 
 - `:invoke` and `:ok` are the begin and the end of an operation. Times are the events' places in the history, so nothing touches.
-- The value is that of the `:ok`. What is `nil` in a write's `:invoke` may have become known: `[nil 3]` ends as `[7 3]`, the 7th version.
-- `:info`, or no end at all: nobody knows whether a write or a `:cas` took effect, so it stands there without an end; a write with a `nil`
-  has the value of the read that shows it, or isn't there. A read is left out.
+- The value is that of the `:ok`. What is `nil` in a write's `:invoke` may have become known: `[nil 3]` ends as `[7 3]`, the 7th version. No
+  key is `nil`, so that is a value without a key.
+- `:info`, or no end at all: nobody knows whether a write or a `:cas` took effect, so it stands there without an end. A read is left out.
+- A write of unknown end that has a `nil` wrote the value that a read or a `:cas` shows and nothing else wrote, if they differ in the `nil`
+  alone. If nothing shows it, it is left out. A `nil` is a value, and stays, at a place where a finished write of the key kept its own and
+  none had one filled. What fills one is taken for new, as a version is: nothing else wrote that value. Of several such writes it is the
+  first; where that might be wrong, the history is refused.
 - `:fail`: the operation didn't take place, and is left out.
 - What isn't done by a client (`:process :nemesis`) is left out.
 - At first each register holds `nil`, or the opening, as EDN.
@@ -54,9 +58,9 @@ def is_pair(value):
 
 
 def has_key(event):
-    """Whether the value of an invocation is `[key value]`."""
+    """Whether the value of an invocation is `[key value]`; no key is `nil`."""
     value = event.get(":value")
-    return is_pair(value) and (event[":f"] != ":cas" or is_pair(value[1]))
+    return is_pair(value) and value[0] is not None and (event[":f"] != ":cas" or is_pair(value[1]))
 
 
 def is_taken(event):
@@ -88,7 +92,7 @@ def add_event(history, line, place, event, keyed):
             raise lines.Refused(line, "this value has no key")
         key, value = {"key": value[0]}, value[1]
     if event[":type"] == ":invoke":
-        history.begin(line, who, kind, key.get("key"), place, value)
+        history.begin(line, who, kind, key.get("key"), place, value, holes=lines.holes_of(value) if kind == "write" else frozenset())
     elif event[":type"] == ":ok":
         history.end(line, who, kind, place, value, **key)
     elif event[":type"] == ":fail":

@@ -56,23 +56,34 @@ def is_exchange(value):
     return isinstance(value, list) and len(value) == 2 and not (value[0] is None and isinstance(value[1], list))
 
 
-def has_hole(value):
-    """Whether a part of a value is `nil`."""
-    return isinstance(value, list) and any(it is None or has_hole(it) for it in value)
+def holes_of(value, place=()):
+    """The places of the parts of a value that are `nil`; () is that of the whole."""
+    if value is None:
+        return frozenset([place])
+    parts = enumerate(value) if isinstance(value, list) else ()
+    return frozenset().union(*(holes_of(it, (*place, at)) for at, it in parts))
 
 
-def fits(value, known):
-    """Whether a value, where it isn't `nil`, is the known one."""
+def fits(value, known, holes, place=()):
+    """Whether a value is the known one but for its holes, the places of which nobody knows what stands there."""
+    if place in holes:
+        return True
     if isinstance(value, list) and isinstance(known, list):
-        return len(value) == len(known) and all(map(fits, value, known))
-    return value is None or name_of(value) == name_of(known)
+        return len(value) == len(known) and all(fits(*pair, holes, (*place, at)) for at, pair in enumerate(zip(value, known)))
+    return name_of(value) == name_of(known)
+
+
+# A value that a register had by an operation: surely, unless the operation may have taken no effect.
+Seen = collections.namedtuple("Seen", "line kind value is_sure")
 
 
 class Call:
-    """An operation of a register, which its key names. The value of a compare-and-set is what it asked for and what it would leave."""
+    """An operation of a register, which its key names. The value of a compare-and-set is what it asked for and what it would leave. The
+    holes of a write are the places of its value that weren't known when it began; `is_told` says whether they are by now."""
 
-    def __init__(self, line, who, kind, key, begin, value):
+    def __init__(self, line, who, kind, key, begin, value, holes=frozenset()):
         self.line, self.who, self.kind, self.key, self.begin, self.value = line, who, kind, record_key(key), begin, value
+        self.holes, self.is_told = holes, False
         self.end, self.fate = None, "open"
         # of a compare-and-set: whether it is known to have found another value, and maybe which one
         self.missed, self.found = False, None
@@ -80,8 +91,24 @@ class Call:
         self.failed_at = None
 
     def is_vague(self):
-        """Whether this is a write that never ended, of whose value a part is `nil`."""
-        return self.kind == "write" and self.fate == "open" and has_hole(self.value)
+        """Whether this is a write of whose value a part isn't known."""
+        return self.kind == "write" and bool(self.holes) and not self.is_told
+
+    def may_leave(self, value):
+        return fits(self.value, value, self.holes) if self.is_vague() else name_of(value) in map(name_of, self.left())
+
+    def left(self):
+        """The value that it leaves, if it takes effect and that is known."""
+        if self.kind == "cas":
+            return [] if self.missed else [self.value[1]]
+        return [self.value] if self.kind == "write" and not self.is_vague() else []
+
+    def seen(self):
+        """The values that the register had by this operation."""
+        values = [self.value] if self.kind == "read" else []
+        if self.kind == "cas":
+            values = [self.value[0]] if not self.missed else [] if self.found is None else [self.found]
+        return [Seen(self.line, self.kind, it, self.fate == "done") for it in values]
 
     def row(self):
         row = {"who": self.who, "kind": self.kind, "begin": self.begin, "end": self.end}
@@ -111,8 +138,8 @@ class History:
         self.count += 1
         self.untakeable.append(why)
 
-    def begin(self, line, who, kind, key, at, value, name=None):
-        """A call begins; `name` says which one returns, if a process may have several."""
+    def begin(self, line, who, kind, key, at, value, name=None, holes=frozenset()):
+        """A call begins; `name` says which one returns, if a process may have several, and `holes` what isn't known of a write's value."""
         name = who if name is None else name
         if not is_whole(who):
             raise Refused(line, f"a process has a number from 0 on, of at most 64 bits, and not {edn.text_of(who)}")
@@ -123,7 +150,7 @@ class History:
         if kind == "cas" and not is_exchange(value):
             raise Refused(line, f"a cas has the value that it asks for and the one that it leaves, and not {edn.text_of(value)}")
         self.count += 1
-        self.under_way[name] = Call(line, who, kind, key, at, value)
+        self.under_way[name] = Call(line, who, kind, key, at, value, holes)
         self.calls.append(self.under_way[name])
 
     def returned(self, line, name, kind):
@@ -135,13 +162,14 @@ class History:
         return call
 
     def end(self, line, name, kind, at, value, **key):
-        """A call took effect; a read gave this value, a write wrote it. A write without one wrote what it began with."""
+        """A call took effect; a read gave this value, a write wrote it. A write without one wrote what it began with, if that was known."""
         call = self.returned(line, name, kind)
         if key and record_key(key["key"]) != call.key:
             raise Refused(line, f"this {kind} ends for another key than that of line {call.line}")
         self.set_end(line, call, at)
-        if kind != "read" and value is not None and not (fits(call.value, value) if kind == "write" else name_of(call.value) == name_of(value)):
+        if kind != "read" and value is not None and not fits(call.value, value, call.holes):
             raise Refused(line, f"this {kind} ends with another value than that of line {call.line}")
+        call.is_told = value is not None or call.value is None
         if kind == "read" or value is not None:
             call.value = value
 
@@ -183,31 +211,61 @@ class History:
         return found
 
     def with_known_values(self, calls):
-        """The calls of a key without unfinished writes of which a part isn't known. One of these that a read shows gets its value. (If a
-        write ended with a `nil`, that is a value like others.)"""
-        if any(it.kind == "write" and it.fate == "done" and has_hole(it.value) for it in calls):
-            return calls
-        open_writes = [it for it in calls if it.is_vague()]
-        written = {name_of(it.value) for it in calls if it.kind == "write" and not it.is_vague()} | {name_of(self.opening)}
-        written |= {name_of(it.value[1]) for it in calls if it.kind == "cas"}
-        shown = {}
+        """The calls of a key, in which a write that isn't wholly known has the value that was seen of it. One that nobody saw, and that
+        needn't have taken effect, isn't there."""
+        settled = settled_holes(calls)
         for it in calls:
-            if it.kind == "read" and name_of(it.value) not in written:
-                shown.setdefault(name_of(it.value), it)
-        for read in shown.values() if open_writes else ():
-            self.find_write(read, open_writes, shown.values())
-        return [it for it in calls if not it.is_vague()]
+            it.holes -= settled
+        vague, known = [it for it in calls if it.is_vague()], [it for it in calls if not it.is_vague()]
+        if not vague:
+            return calls
+        written = {name_of(it.value) for it in known if it.fate == "done" and it.kind == "write"} | {name_of(self.opening)}
+        made = written | {name_of(value) for it in known if it.fate == "done" for value in it.left()}
+        shown = {}
+        for seen in sorted((seen for it in calls for seen in it.seen()), key=lambda it: not it.is_sure):
+            shown.setdefault(name_of(seen.value), seen)
+        rivals = [seen for name, seen in shown.items() if name not in written]
+        orphans = [seen for seen in rivals if name_of(seen.value) not in made]
+        # (what was seen for sure first, and of that what the fewest writes may have left)
+        for seen in sorted(orphans, key=lambda it: (not it.is_sure, sum(write.may_leave(it.value) for write in vague))):
+            self.find_write(seen, vague, known, rivals)
+        names = made | shown.keys() | {name_of(value) for it in known for value in it.left()}
+        # (a compare-and-set may have found what nobody else saw)
+        is_any_kept = any(it.missed and it.found is None for it in calls)
+        kept = [it for it in calls if not it.is_vague() or it.fate == "done" or is_any_kept or name_of(it.value) in names]
+        reached = self.reached(kept)
+        for seen in (it for name, it in shown.items() if it.is_sure and name in made and name not in reached):
+            self.doubt(seen, [it for it in vague if fits(it.value, seen.value, it.holes)], known)
+        return kept
 
-    def find_write(self, read, open_writes, reads):
-        """The unfinished write that a read shows: if several could be it, the one that began first, as that excludes the least. If it could
-        be the write of another read as well, nobody knows."""
-        fitting = [it for it in open_writes if it.is_vague() and fits(it.value, read.value)]
-        rivals = [it for it in reads if it is not read and any(fits(write.value, it.value) for write in fitting)]
-        if len(fitting) > 1 and rivals:
-            why = f"nobody knows which of lines {', '.join(str(it.line) for it in fitting)} wrote what this read gave"
-            self.untakeable.append(Untakeable(read.line, why, "read of an unfinished write"))
+    def reached(self, calls):
+        """The names of the values that may have been there. (A compare-and-set that leaves what it asks for explains no value.)"""
+        names = {name_of(self.opening), *(name_of(it.value) for it in calls if it.kind == "write")}
+        steps = [tuple(map(name_of, it.value)) for it in calls if it.kind == "cas" and not it.missed]
+        more = names
+        while more:
+            names = names | more
+            more = {left for asked, left in steps if asked in names} - names
+        return names
+
+    def doubt(self, seen, fitting, others):
+        """A value that was seen can't be said, if one of these writes may be its write, or one of others."""
+        if fitting:
+            numbers = sorted(it.line for it in [*fitting, *(it for it in others if it.may_leave(seen.value))])
+            why = f"nobody knows which of lines {', '.join(map(str, numbers))} wrote what this {seen.kind} {'gave' if seen.kind == 'read' else 'saw'}"
+            self.untakeable.append(Untakeable(seen.line, why, "read of an unfinished write"))
+
+    def find_write(self, seen, vague, known, rivals):
+        """The write of a value that was seen: if several unfinished ones could be it, the one that began first, as that excludes the least.
+        If such a one could be the write of another value as well, or what is known of the others doesn't exclude them, nobody knows."""
+        fitting = [it for it in vague if it.is_vague() and it.may_leave(seen.value)]
+        others = [it for it in known if it.fate == "open" and it.may_leave(seen.value)]
+        has_rivals = any(it is not seen and write.may_leave(it.value) for it in rivals for write in fitting)
+        if fitting and (others or len(fitting) > 1 and (has_rivals or any(it.fate == "done" for it in fitting))):
+            self.doubt(seen, fitting, others)
         elif fitting:
-            min(fitting, key=lambda it: it.begin).value = read.value
+            write = min(fitting, key=lambda it: it.begin)
+            write.value, write.is_told = seen.value, True
 
     def has_repeats(self, calls):
         """Whether a log has to be one whose values repeat: it has a compare-and-set, or writes a value twice, or what was there at first."""
@@ -231,6 +289,13 @@ class History:
         kinds = collections.Counter(it.kind for it in self.untakeable)
         counts = ", ".join(f"{count} of kind `{kind}`" for kind, count in kinds.most_common())
         return Refused(first.line, str(first), f"of {self.count} operations {len(self.untakeable)} can't be said: {counts}")
+
+
+def settled_holes(calls):
+    """The places where `nil` is a value: a finished write had it there from begin to end, and none had anything else at the end."""
+    told = [it for it in calls if it.kind == "write" and it.is_told]
+    stayed = frozenset().union(*(it.holes & holes_of(it.value) for it in told))
+    return stayed.difference(*(it.holes - holes_of(it.value) for it in told))
 
 
 def numbers_beside(taken):

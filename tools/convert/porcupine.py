@@ -36,6 +36,8 @@ import lines
 KINDS = {"get": "read", "read": "read", "put": "write", "write": "write", "cas": "cas"}
 JEPSEN = re.compile(r"INFO\s+jepsen\.util\s+-\s+(\d+)\s+:(\w+)\s+:(\w+)\s+(.*)")
 CALL, RETURN = ("call", 0, False), ("return", 1, True)
+# The hole of a record of etcd.
+REVISION = frozenset([(0,)])
 
 
 class Untaken(Exception):
@@ -254,7 +256,8 @@ def add_operation(history, line, place, row):
     asked, gave = row.get("Input"), row.get("Output")
     is_etcd = isinstance(asked, dict) and "Type" in asked
     kind, key, value = etcd_input(asked) if is_etcd else input_of(line, asked)
-    history.begin(line, row.get("ClientId"), kind, key, row["Call"], value, place)
+    holes = REVISION if is_etcd and kind == "write" else frozenset()
+    history.begin(line, row.get("ClientId"), kind, key, row["Call"], value, place, holes)
     known = etcd_output(kind, gave, value) if is_etcd else [gave]
     if row.get("Return") is None or known is None:
         history.leave(line, place, kind)
