@@ -116,7 +116,7 @@ sees_stale() {
 # Of what each program is made, as the shell sees it by the times of files.
 compare_times() {
     top=. && . build/build.sh
-    top="$room/times"
+    top="$room/by_times"
     rm -rf "$top"
     mkdir -p "$top/c" "$top/crates/low/specs"
     printf 'low:\nfsr: low\npicture: low\nfsr_check:\n' >"$top/crates.txt"
