@@ -155,7 +155,11 @@ tells_less() {
 is_debian() {
     [ "$(ar t "$1" | tr '\n' ' ')" = 'debian-binary control.tar.gz data.tar.gz ' ] || { echo "it has $(ar t "$1" | tr '\n' ' ')" && return 1; }
     [ "$(dpkg-deb -f "$1" Version)" = "$version" ] || { echo "version $(dpkg-deb -f "$1" Version)" && return 1; }
-    [ "$(dpkg-deb -f "$1" Multi-Arch)" = "${has_arm:+same}" ] || { echo "Multi-Arch: $(dpkg-deb -f "$1" Multi-Arch)" && return 1; }
+    # (dpkg-deb says `no` if there is no such line)
+    beside=no
+    [ -z "$has_arm" ] || beside=same
+    multi=$(dpkg-deb -f "$1" Multi-Arch)
+    [ "${multi:-no}" = "$beside" ] || { echo "Multi-Arch: $multi" && return 1; }
     kilobytes=$(dpkg-deb --fsys-tarfile "$1" | tar -tv | awk '/^-/ { sum += int(($3 + 1023) / 1024) } END { print sum }')
     [ "$(dpkg-deb -f "$1" Installed-Size)" = "$kilobytes" ] || { echo "size $(dpkg-deb -f "$1" Installed-Size), not $kilobytes" && return 1; }
 }
